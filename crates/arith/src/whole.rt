@@ -1,0 +1,33 @@
+// Leaves on whole numbers.
+ghost use mathlib.Core.Path.{_≡_};
+ghost use Prim.Native.Nat.{_^_, _≤_, _<_, min};
+ghost use lib.Count.{leadingZeros};
+
+// The smaller of two numbers.
+pub fn smaller(a: u64, b: u64) -> u64
+    ensures { λ r. ⌜ r ≡ min a b ⌝ }
+{
+    if a <= b { a } else { b }
+}
+
+// 2 to the power k.
+pub fn pow2(k: u64) -> u64
+    requires { ⌜ k < 64 ⌝ }
+    ensures { λ r. ⌜ r ≡ 2 ^ k ⌝ }
+{
+    1 << k
+}
+
+// A byte as a u64.
+pub fn wide(x: u8) -> u64
+    ensures { λ r. ⌜ (r ≡ x) × (r < 256) ⌝ }
+{
+    x as u64
+}
+
+// The number of 0 bits before the first 1 of a u64; 64 for 0.
+pub fn zeros(x: u64) -> u64
+    ensures { λ r. ⌜ (r ≡ leadingZeros 64 x) × (r ≤ 64) ⌝ }
+{
+    u64::leading_zeros(x) as u64
+}
