@@ -20,6 +20,10 @@ readBack z = toZ w64 (ofZ w64 z)
 pub read-back : {z : ℤ} → SFits w64 z → readBack z ≡ z
 read-back f = toZ-ofZ f
 
+-- the same of a struct's field, of which the checker tells the bound alone
+pub field-back : (z : ℤ) → mag z < 2 ^ 63 → readBack z ≡ z
+field-back z h = read-back (record { sfits = h })
+
 mag-le : (z : ℤ) → mag z ≤ natAbs z
 mag-le (pos n) = le-refl n
 mag-le (negsuc n) = omega arith
@@ -27,6 +31,10 @@ mag-le (negsuc n) = omega arith
 -- a number of magnitude below 2^63 fits
 pub fits-small : (z : ℤ) → natAbs z < 2 ^ 63 → SFits w64 z
 fits-small z h = record { sfits = omega (arith, mag-le z) }
+
+-- and is read back as it is
+pub small-back : (z : ℤ) → natAbs z < 2 ^ 63 → readBack z ≡ z
+small-back z h = read-back (fits-small z h)
 
 -- the magnitude of a number that fits
 pub magnitude-below : (z : ℤ) → SFits w64 z → natAbs z ≤ 2 ^ 63
@@ -111,3 +119,15 @@ gap-positive p (suc n) = go (ltb p (suc n)) refl
     go : (t : Bool) → ltb p (suc n) ≡ t → p - suc n ≡ orZero (cond t (negsuc (suc n - suc p)) (pos (p - suc n)))
     go true e = omega (arith, ltb-true p (suc n) e)
     go false e = refl
+
+-- a product and a sum as the machine computes them, of numbers read back
+pub times-back : (r x y : ℤ) → natAbs x < 2 ^ 63 → natAbs y < 2 ^ 63 → r ≡ readBack x *ℤ readBack y → r ≡ x *ℤ y
+times-back r x y h g e = e ∙ (λ i. small-back x h i *ℤ small-back y g i)
+
+pub plus-back : (r x y : ℤ) → natAbs x < 2 ^ 63 → natAbs y < 2 ^ 63 → r ≡ readBack x +ℤ readBack y → r ≡ x +ℤ y
+plus-back r x y h g e = e ∙ (λ i. small-back x h i +ℤ small-back y g i)
+
+-- the gap is at most the sum of the magnitudes
+pub gap-below : (p : ℕ) (s : ℤ) → gapOf p s ≤ p + natAbs s
+gap-below p (pos n) = omega (arith, gap-positive p n)
+gap-below p (negsuc n) = le-refl (p + suc n)

@@ -1,0 +1,6 @@
+pub mod Parts
+pub mod Layouts
+pub mod Bytes
+pub mod Fields
+pub mod Signed
+mod Cases

@@ -1,0 +1,33 @@
+-- `fields::read_word`: two halves side by side are the word, from `number-add`.
+use native.Mathlib.Omega.{arith}
+use Rattle.fields.proofs.Bytes.{number-add}
+use borrow.Author.Needs.{needs}
+use Rattle.fields.proofs.read_word.Statement.{statement}
+use Rattle.fields.proofs.read_word.Tie as tie
+
+load-requires : tie.Need-load-requires
+load-requires c κs = search needs
+
+mul-result : tie.Need-mul-result
+mul-result c = search needs
+
+add-load : tie.Need-add-load
+add-load c = search needs
+
+load-requires-2 : tie.Need-load-requires-2
+load-requires-2 c κs = search needs
+
+add-result : tie.Need-add-result
+add-result c = search needs
+
+returns : tie.Need-returns
+returns c =
+    let a = c .before .before .before .args in
+    record {
+      is = number-add (a .s .now) (a .from) 4 4 (c .before .load .ensures .is) (c .load2 .ensures .is) (omega arith);
+      small = omega arith;
+    }
+
+pub read-word-spec : {M : Type 1} → statement M
+read-word-spec =
+    tie.close (tie.spec load-requires mul-result add-load load-requires-2 add-result returns)

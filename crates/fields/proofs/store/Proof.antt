@@ -1,0 +1,67 @@
+-- `fields::store`: the bytes left to write lead to the end state, from `store-next`.
+use mathlib.Core.Path.{_≡_, refl, sym, _∙_}
+use Prim.Native.Nat.{_≤_}
+use native.Mathlib.Omega.{arith}
+use lib.ListN.{length, length-set}
+use Rattle.fields.specs.Bytes.{withBytes}
+use Rattle.fields.proofs.Bytes.{store-next, store-none}
+use borrow.Author.Needs.{needs}
+use Rattle.fields.proofs.store.Statement.{statement}
+use Rattle.fields.proofs.store.Tie as tie
+
+abbrev Inv-loop : tie.InvT-loop
+Inv-loop s₀ from n v rest₀ i₀ s rest i = (i ≤ n) × ((length s ≡ length s₀) × (withBytes s from i rest ≡ withBytes s₀ from n v))
+
+abbrev μ-loop : tie.MeasureT-loop
+μ-loop s₀ from n v rest₀ i₀ s rest i = i
+
+loop-holds : tie.Need-loop-holds Inv-loop μ-loop
+loop-holds c = (omega arith, (refl, refl))
+
+sub-i : tie.Need-sub-i Inv-loop μ-loop
+sub-i c = search needs
+
+cast-s : tie.Need-cast-s Inv-loop μ-loop
+cast-s c = search needs
+
+add-s : tie.Need-add-s Inv-loop μ-loop
+add-s c = search needs
+
+slice-write-s : tie.Need-slice-write-s Inv-loop μ-loop
+slice-write-s c = search needs
+
+loop-less : tie.Need-loop-less Inv-loop μ-loop
+loop-less c = search needs
+
+loop-again : tie.Need-loop-again Inv-loop μ-loop
+loop-again c = (
+  search needs,
+  (
+    simp length-set (c .before .loop .inv .1 .0),
+    store-next _ _ _ _ (c .loop-test .taken) (omega arith) ∙ c .before .loop .inv .1 .1,
+  ),
+)
+
+same-length : tie.Need-same-length Inv-loop μ-loop
+same-length c = search needs
+
+returns : tie.Need-returns Inv-loop μ-loop
+returns c =
+    let e : c .before .loop .i ≡ 0 = omega arith in
+    sym (store-none _ _ _) ∙ rw e at (c .before .loop .inv .1 .1)
+
+pub store-spec : {M : Type 1} → statement M
+store-spec =
+    tie.close
+    (tie.spec
+    Inv-loop
+    μ-loop
+    loop-holds
+    sub-i
+    cast-s
+    add-s
+    slice-write-s
+    loop-less
+    loop-again
+    same-length
+    returns)

@@ -1,0 +1,4 @@
+-- The laws of the machine's numbers.
+pub mod Bounds
+pub mod Dots
+pub mod Limited

@@ -1,0 +1,156 @@
+-- Document 01, "From a block to its numbers" and the ramp of "Plan, give out, ramp".
+-- Lengths are in µm, speeds in µm/s, squared speeds and reaches in (µm/s)², accelerations in µm/s².
+use mathlib.Core.List.{List, [], _∷_}
+use Prim.Native.Nat.{ℕ, zero, suc, _+_, _-_, _*_, _/_, _^_, _≤_, _<_, min, max}
+use lib.Dec.{eqb}
+use lib.IntN.{ℤ, pos, _+ℤ_, _*ℤ_}
+use lib.ListN.{getD}
+use Rattle.arith.specs.Root.{rootOf}
+use Rattle.arith.specs.Quotient.{cappedQuotient}
+use Rattle.arith.specs.Signed.{gapOf}
+use Rattle.machine.specs.Ranges.{mostAccel}
+use Rattle.machine.specs.Checks.{pick, movesOf}
+use Rattle.machine.specs.declared.Axes.{Axes}
+use Rattle.machine.specs.declared.Limits.{Limits}
+use Rattle.machine.specs.declared.Block.{Block}
+use Rattle.machine.specs.declared.Numbers.{Numbers}
+use Rattle.machine.specs.declared.Ramp.{Ramp}
+
+-- parts of a µm in which a length is counted
+abbrev pub unit : ℕ
+unit = 1
+
+-- every axis has less than `bound`
+abbrev pub AxesBelow : (bound : ℕ) → Axes → Type 0
+AxesBelow bound a = (a .x < bound) × (a .y < bound) × (a .z < bound)
+
+-- every limit is below 2^32: with less than that no product of a block's numbers passes 64 bits
+abbrev pub LimitsBelow : Limits → Type 0
+LimitsBelow l = AxesBelow (2 ^ 32) (l .accel) × AxesBelow (2 ^ 32) (l .speed) × (l .jump < 2 ^ 32) × (l .chord < 2 ^ 32) × (l .tick < 2 ^ 32)
+
+-- Length L: the largest whole number whose square is not above the sum of the three squared moves
+unfoldable pub lengthFrom : Axes → ℕ
+lengthFrom m = rootOf (unit * unit * (m .x * m .x + m .y * m .y + m .z * m .z))
+
+abbrev pub lengthOf : Block → ℕ
+lengthOf b = lengthFrom (movesOf b)
+
+-- the largest number not above `cap` with number × move ≤ limit × length on one axis
+unfoldable pub axisLimit : (cap limit length step : ℕ) → ℕ
+axisLimit cap limit length step = cappedQuotient cap (limit * length) (unit * step)
+
+-- the same on every axis; an axis that does not move allows everything
+unfoldable pub eachAxis : (cap : ℕ) (limits : Axes) (length : ℕ) (m : Axes) → ℕ
+eachAxis cap limits length m = axisLimit (axisLimit (axisLimit cap (limits .x) length (m .x)) (limits .y) length (m .y)) (limits .z) length (m .z)
+
+-- Block speed v: the largest whole number not above the feed and, for each moving axis, with v × |move| ≤ speed limit × L
+unfoldable pub speedOf : Limits → Block → ℕ
+speedOf l b = eachAxis (b .feed) (l .speed) (lengthOf b) (movesOf b)
+
+-- the torque steps: percent of the acceleration at each step
+abbrev pub torqueSteps : List ℕ
+torqueSteps = 100 ∷ 100 ∷ 90 ∷ 80 ∷ 70 ∷ 60 ∷ 50 ∷ 40 ∷ []
+
+-- the percent at a speed: step number is (v - 1) divided by 125,000, rounded down
+unfoldable pub torquePercent : ℕ → ℕ
+torquePercent v = getD torqueSteps ((v - 1) / 125_000) 0
+
+-- the largest whole number with a × |move| ≤ acceleration limit × L for each moving axis
+-- (of a block that moves it is below the bound given here: the law `axis-accel-largest`)
+unfoldable pub axisAccel : Limits → Block → ℕ
+axisAccel l b = eachAxis (2 * mostAccel) (l .accel) (lengthOf b) (movesOf b)
+
+-- Acceleration a: the percent of the torque step of it, rounded down, but never below 1
+unfoldable pub accelOf : Limits → Block → ℕ
+accelOf l b = max 1 (axisAccel l b * torquePercent (speedOf l b) / 100)
+
+-- Reach b = 2 × a × L
+unfoldable pub reachFrom : (accel length : ℕ) → ℕ
+reachFrom accel length = 2 * accel * length / unit
+
+abbrev pub reachOf : Limits → Block → ℕ
+reachOf l b = reachFrom (accelOf l b) (lengthOf b)
+
+-- chord rule: 8 × E × R
+unfoldable pub chordFactor : Limits → (radius : ℕ) → ℕ
+chordFactor l radius = 8 * l .chord * radius
+
+-- the chord rule's cap: the largest q with q × T × T ≤ 8 × E × R × 10^12
+unfoldable pub chordCap : Limits → (radius : ℕ) → ℕ
+chordCap l radius = chordFactor l radius * 1_000_000_000_000 / (l .tick * l .tick)
+
+-- Block cap: v squared; if the radius is not 0, the largest q not above that with q × T × T ≤ 8 × E × R × 10^12
+-- (the law `chord-capped` says that this is the smaller of v squared and the chord rule's cap)
+unfoldable pub blockCapFrom : Limits → (radius speed : ℕ) → ℕ
+blockCapFrom l radius speed =
+    pick (eqb radius 0) (speed * speed)
+    (cappedQuotient (speed * speed) (chordFactor l radius * 1_000_000_000_000) (l .tick * l .tick))
+
+abbrev pub blockCap : Limits → Block → ℕ
+blockCap l b = blockCapFrom l (b .radius) (speedOf l b)
+
+-- a block's numbers together
+unfoldable pub numbersOf : Limits → Block → Numbers
+numbersOf l b = record { length = lengthOf b; accel = accelOf l b; reach = reachOf l b; cap = blockCap l b }
+
+-- P: the product of two lengths. S: the sum over axes of the products of the moves, in the parts in which P is counted
+abbrev pub dotOf : Block → Block → ℤ
+dotOf a b = (a .x *ℤ b .x) +ℤ (a .y *ℤ b .y) +ℤ (a .z *ℤ b .z)
+
+-- P - S, or 0 where S ≥ P
+unfoldable pub turnFrom : (product : ℕ) → Block → Block → ℕ
+turnFrom product a b = gapOf product (pos (unit * unit) *ℤ dotOf a b)
+
+-- A corner cap, which may be none
+pub data CornerCap : Type 0 where
+  none : CornerCap
+  upTo : ℕ → CornerCap
+
+-- none where S ≥ P, otherwise the largest q with q × 2 × (P - S) ≤ J × J × P
+unfoldable pub cornerFrom : (jump product turn : ℕ) → CornerCap
+cornerFrom jump product zero = none
+cornerFrom jump product (suc turn) = upTo (jump * jump * product / (2 * suc turn))
+
+-- Corner cap between two blocks
+unfoldable pub cornerCap : Limits → Block → Block → CornerCap
+cornerCap l a b = cornerFrom (l .jump) (lengthOf a * lengthOf b) (turnFrom (lengthOf a * lengthOf b) a b)
+
+-- a cap under a corner cap
+abbrev pub underCorner : CornerCap → ℕ → ℕ
+underCorner none cap = cap
+underCorner (upTo q) cap = min cap q
+
+-- Junction cap: the smallest of the two block caps and the corner cap
+unfoldable pub junctionCap : Limits → Block → Block → ℕ
+junctionCap l a b = underCorner (cornerCap l a b) (min (blockCap l a) (blockCap l b))
+
+-- the peak: the largest p not above the block cap with 2 × p - entry - exit ≤ b
+unfoldable pub peakOf : (cap reach entry exit : ℕ) → ℕ
+peakOf cap reach entry exit = min cap ((reach + entry + exit) / 2)
+
+-- up: (p - entry) / (2 × a), rounded down
+unfoldable pub upOf : (rise accel : ℕ) → ℕ
+upOf rise accel = unit * rise / (2 * accel)
+
+-- down: (p - exit) / (2 × a), rounded down
+unfoldable pub downOf : (fall accel : ℕ) → ℕ
+downOf fall accel = unit * fall / (2 * accel)
+
+-- entry and exit squared speeds within a block's cap and reach, as a plan's are
+pub record Rampable (n : Numbers) (entry exit : ℕ) : Type 0 where
+  pub accel-above : 0 < n .accel
+  pub accel-below : n .accel < 2 ^ 32
+  pub cap-below : n .cap < 2 ^ 50
+  pub reach-below : n .reach < 2 ^ 62
+  pub entry-capped : entry ≤ n .cap
+  pub exit-capped : exit ≤ n .cap
+  pub falls : entry ≤ exit + n .reach
+  pub rises : exit ≤ entry + n .reach
+
+-- Ramp of a block with entry and exit squared speeds
+unfoldable pub rampOf : Numbers → (entry exit : ℕ) → Ramp
+rampOf n entry exit =
+    let peak = peakOf (n .cap) (n .reach) entry exit in
+    let up = upOf (peak - entry) (n .accel) in
+    let down = downOf (peak - exit) (n .accel) in
+    record { peak = peak; up = up; cruise = n .length - up - down; down = down }

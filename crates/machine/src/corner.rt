@@ -1,0 +1,44 @@
+// The corner between two blocks.
+ghost use mathlib.Core.Path.{_≡_};
+ghost use Prim.Native.Nat.{_*_, _^_, _<_};
+ghost use Rattle.machine.specs.Checks.{movesOf};
+ghost use Rattle.machine.specs.Numbers.{AxesBelow, cornerFrom, dotOf, turnFrom, underCorner};
+use crate::Block;
+use arith::quotient::capped_quotient;
+use arith::signed::gap;
+use arith::signed::plus;
+use arith::signed::times;
+
+// The square of the parts of a µm in which a length is counted.
+const UNIT_SQUARE: i64 = 1;
+
+// The sum over axes of the products of two blocks' moves, µm².
+fn dot(a: Block, b: Block) -> i64
+    requires { ⌜ AxesBelow (2 ^ 21) (movesOf a) × AxesBelow (2 ^ 21) (movesOf b) ⌝ }
+    ensures { λ r. ⌜ r ≡ dotOf a b ⌝ }
+{
+    let ax = a.x;
+    let ay = a.y;
+    let az = a.z;
+    let bx = b.x;
+    let by = b.y;
+    let bz = b.z;
+    plus(plus(times(ax, bx), times(ay, by)), times(az, bz))
+}
+
+// The product of the lengths less that sum, or 0.
+fn turn(product: u64, a: Block, b: Block) -> u64
+    requires { ⌜ (product < 2 ^ 62) × AxesBelow (2 ^ 21) (movesOf a) × AxesBelow (2 ^ 21) (movesOf b) ⌝ }
+    ensures { λ r. ⌜ r ≡ turnFrom product a b ⌝ }
+{
+    gap(product, times(UNIT_SQUARE, dot(a, b)))
+}
+
+// A cap, (µm/s)², under the corner cap between two blocks, whose lengths are given.
+pub fn under_corner(cap: u64, jump: u64, a: Block, length_a: u64, b: Block, length_b: u64) -> u64
+    requires { ⌜ (jump < 2 ^ 32) × («length_a» < 2 ^ 30) × («length_b» < 2 ^ 30) × AxesBelow (2 ^ 21) (movesOf a) × AxesBelow (2 ^ 21) (movesOf b) ⌝ }
+    ensures { λ r. ⌜ r ≡ underCorner (cornerFrom jump («length_a» * «length_b») (turnFrom («length_a» * «length_b») a b)) cap ⌝ }
+{
+    let product = length_a * length_b;
+    capped_quotient(cap, jump * jump, product, 2 * turn(product, a, b))
+}

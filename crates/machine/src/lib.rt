@@ -1,0 +1,84 @@
+// The machine and the block: limits, blocks, what is refused of them, and the numbers that a plan
+// is made of. Lengths are in µm, speeds in µm/s, squared speeds in (µm/s)², accelerations in µm/s².
+pub mod check;
+pub mod corner;
+pub mod measure;
+pub mod ramps;
+
+// A quantity of each axis.
+pub struct Axes {
+    pub x: u64,
+    pub y: u64,
+    pub z: u64,
+}
+
+// The limits of a machine.
+pub struct Limits {
+    // greatest acceleration of each axis, µm/s²
+    pub accel: Axes,
+    // greatest speed of each axis, µm/s
+    pub speed: Axes,
+    // corner jump, µm/s
+    pub jump: u64,
+    // chord tolerance, µm
+    pub chord: u64,
+    // tick, microseconds
+    pub tick: u64,
+}
+
+// A straight move of the table.
+pub struct Block {
+    // the move on each axis, µm
+    pub x: i64,
+    pub y: i64,
+    pub z: i64,
+    // µm/s
+    pub feed: u64,
+    // radius of the curve that the block is a chord of, µm; 0 means no curve
+    pub radius: u64,
+    // a label for the operator
+    pub mark: u64,
+}
+
+// What a plan needs of one block.
+pub struct Numbers {
+    // length, µm
+    pub length: u64,
+    // acceleration, µm/s²
+    pub accel: u64,
+    // reach, (µm/s)²
+    pub reach: u64,
+    // block cap, (µm/s)²
+    pub cap: u64,
+}
+
+// How a block is driven between its entry and its exit.
+pub struct Ramp {
+    // greatest squared speed, (µm/s)²
+    pub peak: u64,
+    // lengths of speeding up, of constant speed and of braking, µm
+    pub up: u64,
+    pub cruise: u64,
+    pub down: u64,
+}
+
+// Why a call is refused, by the word on the display.
+pub enum Refusal {
+    Limits,
+    Still,
+    Long,
+    Feed,
+    Radius,
+    Mark,
+    Full,
+    Empty,
+    Ragged,
+    Many,
+    List,
+}
+
+// The answer of a check.
+pub enum Checked {
+    Passed,
+    Refused(Refusal),
+}

@@ -1,0 +1,7 @@
+pub mod Brake
+pub mod Plan
+pub mod Highest
+pub mod Kept
+pub mod InPlace
+pub mod Within
+mod Cases

@@ -1,0 +1,41 @@
+//! Writes an example tape, or a seeded tape or trace, to standard output.
+
+use std::io::{self, Write};
+use std::process::ExitCode;
+
+use reference::examples::{example, NAMES};
+use reference::generate::{faulty_tape, tape, trace};
+use reference::rng::Rng;
+
+/// Writes what the arguments name; explains itself otherwise.
+fn main() -> ExitCode {
+    let arguments: Vec<String> = std::env::args().skip(1).collect();
+    let Some(bytes) = bytes_of(&arguments) else {
+        eprintln!("maketape {}", NAMES.join(" | "));
+        eprintln!("maketape tape | faulty | trace SEED");
+        return ExitCode::FAILURE;
+    };
+    match io::stdout().write_all(&bytes) {
+        Ok(()) => ExitCode::SUCCESS,
+        Err(_) => ExitCode::FAILURE,
+    }
+}
+
+/// The bytes that the arguments ask for.
+fn bytes_of(arguments: &[String]) -> Option<Vec<u8>> {
+    match arguments {
+        [name] => example(name).map(|tape| tape.pack()),
+        [kind, seed] => seeded(kind, &mut Rng::new(seed.parse().ok()?)),
+        _ => None,
+    }
+}
+
+/// A seeded accepted tape, faulty tape, or trace.
+fn seeded(kind: &str, rng: &mut Rng) -> Option<Vec<u8>> {
+    match kind {
+        "tape" => Some(tape(rng)),
+        "faulty" => Some(faulty_tape(rng)),
+        "trace" => Some(trace(rng)),
+        _ => None,
+    }
+}

@@ -1,0 +1,138 @@
+//! Example tapes.
+
+use crate::generate::machine_m;
+use crate::machine::{Block, Limits};
+use crate::tape::Tape;
+
+/// Names of the example tapes.
+pub const NAMES: [&str; 4] = ["right-angle", "mould-row", "square-pocket", "to-and-fro"];
+
+/// The example tape of a name.
+pub fn example(name: &str) -> Option<Tape> {
+    match name {
+        "right-angle" => Some(right_angle()),
+        "mould-row" => Some(mould_row()),
+        "square-pocket" => Some(square_pocket()),
+        "to-and-fro" => Some(to_and_fro()),
+        _ => None,
+    }
+}
+
+/// Document 01's right-angle pair on machine M with marks 7 and 8.
+pub fn right_angle() -> Tape {
+    Tape {
+        limits: machine_m(),
+        blocks: marked(7, &[[1_000, 0, 0], [0, 1_000, 0]], 20_000),
+    }
+}
+
+/// Source 003's to-and-fro line, its table 1 as differences in µm, on machine
+/// M at 20,000 µm/s, its 1,200 mm/min.
+pub fn to_and_fro() -> Tape {
+    let steps = [350, 200, 100, 220, 130, -100, -120, -220, -310, -250];
+    let moves = steps.map(|x| [x, 2 * x, 0]);
+    Tape {
+        limits: machine_m(),
+        blocks: marked(1, &moves, 20_000),
+    }
+}
+
+/// Limits of a high-speed mill.
+fn mill() -> Limits {
+    Limits {
+        accel: [5_000_000, 5_000_000, 3_000_000],
+        speed: [500_000, 500_000, 250_000],
+        jump: 10_000,
+        chord: 2,
+        tick: 4_000,
+    }
+}
+
+/// Radius of the mould's dome, µm.
+const DOME: i64 = 30_000;
+/// Half the width of the mould, µm.
+const HALF: i64 = 20_000;
+/// Step along a row on the dome, µm.
+const STEP: i64 = 250;
+/// Distance between two rows, µm.
+const ROW: i64 = 200;
+
+/// Two rows of a mould, there and back: a flat run-in, a dome of radius 30 mm
+/// in chords, a flat run-out, and a step sideways. Feed 200,000 µm/s.
+pub fn mould_row() -> Tape {
+    let mut blocks = row(1);
+    blocks.push(plain([0, ROW, 0]));
+    blocks.extend(row(-1));
+    Tape {
+        limits: mill(),
+        blocks: numbered(1, blocks),
+    }
+}
+
+/// One row in direction 1 or −1 along X.
+fn row(way: i64) -> Vec<Block> {
+    let flat = plain([way * 5_000, 0, 0]);
+    let mut blocks = vec![flat];
+    for k in 0..2 * HALF / STEP {
+        let x = k * STEP - HALF;
+        let rise = height(x + STEP) - height(x);
+        blocks.push(Block {
+            radius: DOME as u64,
+            ..plain([way * STEP, 0, rise])
+        });
+    }
+    blocks.push(flat);
+    blocks
+}
+
+/// Height of the dome above its centre at a distance `x` from its axis, µm.
+fn height(x: i64) -> i64 {
+    (DOME * DOME - x * x).isqrt()
+}
+
+/// A square pocket cleared from its centre outwards in loops with right
+/// angles, 1 mm apart, then a finishing loop at a lower feed.
+pub fn square_pocket() -> Tape {
+    let mut blocks = Vec::new();
+    for k in 1..=8 {
+        let side = 1_000 * k;
+        blocks.extend(sides(side, side).map(plain));
+    }
+    let finish = [[8_000, 0, 0], [0, 8_000, 0], [-8_000, 0, 0], [0, -8_000, 0]];
+    blocks.extend(finish.map(|moves| Block {
+        feed: 60_000,
+        ..plain(moves)
+    }));
+    Tape {
+        limits: mill(),
+        blocks: numbered(1, blocks),
+    }
+}
+
+/// Two sides of a square spiral; odd sides run towards plus, even ones back.
+fn sides(x: i64, y: i64) -> [[i64; 3]; 2] {
+    let way = if x / 1_000 % 2 == 1 { 1 } else { -1 };
+    [[way * x, 0, 0], [0, way * y, 0]]
+}
+
+/// A block at 200,000 µm/s without curve or mark.
+fn plain(moves: [i64; 3]) -> Block {
+    Block {
+        moves,
+        feed: 200_000,
+        radius: 0,
+        mark: 0,
+    }
+}
+
+/// Blocks of the moves at one feed in µm/s, marked from `first` on.
+fn marked(first: u64, moves: &[[i64; 3]], feed: u64) -> Vec<Block> {
+    let blocks = moves.iter().map(|m| Block { feed, ..plain(*m) });
+    numbered(first, blocks.collect())
+}
+
+/// The blocks with marks from `first` on.
+fn numbered(first: u64, blocks: Vec<Block>) -> Vec<Block> {
+    let pairs = blocks.into_iter().zip(first..);
+    pairs.map(|(block, mark)| Block { mark, ..block }).collect()
+}

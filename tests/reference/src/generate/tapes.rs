@@ -1,0 +1,83 @@
+//! Tapes: accepted ones, and ones with each refusal and pairs of refusals.
+
+use super::blocks::{faulty_block, path, BLOCK_FAULTS};
+use super::limits::{faulty_limits, limits};
+use crate::rng::Rng;
+use crate::tape::{pack_limits, pack_record, Tape, LIMITS_BYTES, MOST_BLOCKS, RECORD_BYTES};
+
+/// Bytes of an accepted tape of 0 to 200 blocks, at times of 2,047 or 2,048.
+pub fn tape(rng: &mut Rng) -> Vec<u8> {
+    let count = match rng.below(64) {
+        0 => MOST_BLOCKS,
+        1 => MOST_BLOCKS - 1,
+        _ => rng.spread(0, 200) as usize,
+    };
+    whole(rng, count)
+}
+
+/// Bytes of an accepted tape of `count` blocks.
+fn whole(rng: &mut Rng, count: usize) -> Vec<u8> {
+    let limits = limits(rng);
+    let blocks = path(rng, count);
+    Tape { limits, blocks }.pack()
+}
+
+/// Bytes of a tape with one or two faults, or noise.
+pub fn faulty_tape(rng: &mut Rng) -> Vec<u8> {
+    let count = rng.within(1, 30) as usize;
+    let mut bytes = whole(rng, count);
+    match rng.below(10) {
+        0 => bytes.truncate(rng.below(LIMITS_BYTES as u64) as usize),
+        1 => bytes.extend(vec![0; rng.within(1, 15) as usize]),
+        2 => lengthen(rng, &mut bytes),
+        3 => noise(rng, &mut bytes),
+        _ => spoil(rng, &mut bytes),
+    }
+    if rng.once_in(3) {
+        spoil(rng, &mut bytes);
+    }
+    bytes
+}
+
+/// Makes the tape longer than 32,792 bytes, by whole records or not.
+fn lengthen(rng: &mut Rng, bytes: &mut Vec<u8>) {
+    let most = LIMITS_BYTES + RECORD_BYTES * MOST_BLOCKS;
+    let more = rng.pick(&[1, 15, 16, 17, 1_600]);
+    let record = bytes[LIMITS_BYTES..LIMITS_BYTES + RECORD_BYTES].to_vec();
+    while bytes.len() < most + more {
+        bytes.extend(&record);
+    }
+    bytes.truncate(most + more);
+}
+
+/// Replaces all bytes, or those after the limits, by noise.
+fn noise(rng: &mut Rng, bytes: &mut [u8]) {
+    let first = rng.pick(&[0, LIMITS_BYTES]);
+    let after = &mut bytes[first..];
+    after.iter_mut().for_each(|byte| *byte = rng.word() as u8);
+}
+
+/// Spoils the limits, one of their last 13 bits, or a record, where the tape
+/// is long enough to have it.
+fn spoil(rng: &mut Rng, bytes: &mut [u8]) {
+    let records = bytes.len().saturating_sub(LIMITS_BYTES) / RECORD_BYTES;
+    match rng.below(6) {
+        _ if bytes.len() < LIMITS_BYTES => {}
+        0 => bytes[..LIMITS_BYTES].copy_from_slice(&pack_limits(&faulty_limits(rng), 0)),
+        1 => set_last_bit(rng, bytes),
+        _ if records == 0 => {}
+        _ => {
+            let k = rng.below(records as u64) as usize;
+            let faults = rng.pick(&BLOCK_FAULTS);
+            let record = pack_record(&faulty_block(rng, faults, true));
+            let first = LIMITS_BYTES + RECORD_BYTES * k;
+            bytes[first..first + RECORD_BYTES].copy_from_slice(&record);
+        }
+    }
+}
+
+/// Sets one of the 13 bits that must be zero.
+fn set_last_bit(rng: &mut Rng, bytes: &mut [u8]) {
+    let bit = rng.within(179, 191) as usize;
+    bytes[bit / 8] |= 0x80 >> (bit % 8);
+}

@@ -1,0 +1,24 @@
+//! Look-ahead speed planner for three-axis line blocks, after document 01 alone.
+//!
+//! This package is the second implementation that the proved code is compared
+//! with. The numbers of a block are found by searching on document 01's own
+//! inequalities; `quick` holds the same numbers by division for the benchmark,
+//! and the tests compare the two.
+//!
+//! Units: lengths in µm, speeds in µm/s, squared speeds in (µm/s)²,
+//! accelerations in µm/s², the tick in microseconds.
+
+pub mod bits;
+pub mod examples;
+pub mod generate;
+pub mod incremental;
+pub mod line;
+pub mod listing;
+pub mod machine;
+pub mod plan;
+pub mod quick;
+pub mod refusal;
+pub mod rng;
+pub mod search;
+pub mod tape;
+pub mod trace;

@@ -1,0 +1,73 @@
+//! Ramp of a block between the speeds that a plan gives it.
+
+use super::kinds::{Block, Limits};
+use super::numbers::{parts, Numbers};
+use crate::search::largest;
+
+/// How a block is run: squared peak speed and the lengths of its three parts.
+#[derive(Clone, Copy, Debug, PartialEq, Eq)]
+pub struct Ramp {
+    /// Greatest squared speed in the block, (µm/s)².
+    pub peak: u64,
+    /// Length run while speeding up, µm.
+    pub up: u64,
+    /// Length run at the peak, µm.
+    pub cruise: u64,
+    /// Length run while slowing down, µm.
+    pub down: u64,
+}
+
+/// A block given out with everything that is told of it.
+#[derive(Clone, Copy, Debug, PartialEq, Eq)]
+pub struct Given {
+    pub block: Block,
+    /// Length L, µm.
+    pub length: u64,
+    /// Acceleration a, µm/s².
+    pub accel: u64,
+    /// Squared speed at the block's begin, (µm/s)².
+    pub entry: u64,
+    /// Squared speed at the block's end, (µm/s)².
+    pub exit: u64,
+    pub ramp: Ramp,
+}
+
+/// The block with its numbers and ramp, for a plan's entry and exit squared
+/// speeds.
+pub fn given(limits: &Limits, block: &Block, entry: u64, exit: u64) -> Given {
+    let numbers = Numbers::of(limits, block);
+    Given {
+        block: *block,
+        length: numbers.length,
+        accel: numbers.accel,
+        entry,
+        exit,
+        ramp: ramp_of(&numbers, entry, exit),
+    }
+}
+
+/// Ramp for a plan's entry and exit squared speeds: the peak is the largest p
+/// not above the block cap with 2 × p − entry − exit ≤ b.
+pub fn ramp_of(numbers: &Numbers, entry: u64, exit: u64) -> Ramp {
+    let speeds = entry as u128 + exit as u128;
+    let lawful = |p: u128| p <= numbers.cap as u128 && 2 * p <= numbers.reach as u128 + speeds;
+    let peak = largest(lawful) as u64;
+    let up = ramp_up(peak - entry, numbers.accel);
+    let down = ramp_down(peak - exit, numbers.accel);
+    Ramp {
+        peak,
+        up,
+        cruise: numbers.length - up - down,
+        down,
+    }
+}
+
+/// Length needed to gain `rise` (µm/s)² of squared speed, rounded down.
+pub fn ramp_up(rise: u64, accel: u64) -> u64 {
+    parts(rise) / (2 * accel)
+}
+
+/// Length needed to lose `fall` (µm/s)² of squared speed, rounded down.
+pub fn ramp_down(fall: u64, accel: u64) -> u64 {
+    parts(fall) / (2 * accel)
+}

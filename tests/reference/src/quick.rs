@@ -1,0 +1,81 @@
+//! The numbers of a block and a junction by division, for the benchmark.
+//!
+//! Each function gives what its namesake in `machine` finds by search.
+
+use crate::machine::{chord_bound, parts, ramp_down, ramp_up, torque_percent, torque_step};
+use crate::machine::{Block, Limits, Numbers, Ramp};
+
+/// All numbers of a block that passes checks 2 to 6.
+pub fn numbers_of(limits: &Limits, block: &Block) -> Numbers {
+    let sizes = block.moves.map(|m| parts(m.unsigned_abs()));
+    let length = sizes.iter().map(|s| s * s).sum::<u64>().isqrt();
+    let speed = block.feed.min(rate(&limits.speed, &sizes, length));
+    let full = rate(&limits.accel, &sizes, length);
+    let accel = (full * torque_percent(torque_step(speed)) / 100).max(1);
+    Numbers {
+        length,
+        speed,
+        accel,
+        reach: 2 * accel * length / parts(1),
+        cap: block_cap(limits, block, speed),
+    }
+}
+
+/// Greatest rate along the block that keeps each moving axis within its
+/// limit: limit × L / |move| rounded down, the least over the moving axes.
+fn rate(axis_limits: &[u64; 3], sizes: &[u64; 3], length: u64) -> u64 {
+    let axis = |k: usize| (axis_limits[k] * length).checked_div(sizes[k]);
+    let rates = [axis(0), axis(1), axis(2)];
+    rates.into_iter().flatten().min().unwrap_or(u64::MAX)
+}
+
+/// Block cap, (µm/s)²: v squared, with a radius also the chord cap.
+fn block_cap(limits: &Limits, block: &Block, speed: u64) -> u64 {
+    let squared = speed * speed;
+    if block.radius == 0 {
+        return squared;
+    }
+    let bound = chord_bound(limits, block.radius);
+    capped_quotient(bound, limits.tick * limits.tick, squared)
+}
+
+/// Junction cap, (µm/s)², of two blocks with their numbers.
+pub fn junction_cap(limits: &Limits, before: (&Block, &Numbers), after: (&Block, &Numbers)) -> u64 {
+    let smaller = before.1.cap.min(after.1.cap);
+    let p = (before.1.length * after.1.length) as i64;
+    let s = dot(before.0, after.0) * parts(1).pow(2) as i64;
+    if s >= p {
+        return smaller;
+    }
+    let bound = (limits.jump * limits.jump) as u128 * p as u128;
+    capped_quotient(bound, 2 * (p - s) as u64, smaller)
+}
+
+/// Sum over the axes of the products of the moves, µm².
+fn dot(before: &Block, after: &Block) -> i64 {
+    let [x, y, z] = before.moves;
+    let [u, v, w] = after.moves;
+    x * u + y * v + z * w
+}
+
+/// Smaller of `cap` and `bound` / `divisor` rounded down. Divides only where
+/// the quotient is below the cap.
+fn capped_quotient(bound: u128, divisor: u64, cap: u64) -> u64 {
+    if cap as u128 * divisor as u128 <= bound {
+        return cap;
+    }
+    (bound / divisor as u128) as u64
+}
+
+/// Ramp for a plan's entry and exit squared speeds, (µm/s)².
+pub fn ramp_of(numbers: &Numbers, entry: u64, exit: u64) -> Ramp {
+    let peak = numbers.cap.min((numbers.reach + entry + exit) / 2);
+    let up = ramp_up(peak - entry, numbers.accel);
+    let down = ramp_down(peak - exit, numbers.accel);
+    Ramp {
+        peak,
+        up,
+        cruise: numbers.length - up - down,
+        down,
+    }
+}
