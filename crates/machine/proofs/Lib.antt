@@ -2,3 +2,5 @@
 pub mod Bounds
 pub mod Dots
 pub mod Limited
+pub mod Rampables
+pub mod Tests
