@@ -1,0 +1,46 @@
+-- A ring that holds a line, and demand 3.
+use mathlib.Core.Path.{_≡_}
+use mathlib.Core.List.{List}
+use Prim.Native.Nat.{ℕ, _+_, _≤_, _<_}
+use lib.ListN.{length, getD, drop}
+use Rattle.profile.specs.Line.{capAt, Highest}
+use Rattle.profile.specs.Passes.{CanBrake, brake}
+use Rattle.machine.specs.Checks.{limitsRefusal, blockRefusal}
+use Rattle.machine.specs.Numbers.{numbersOf}
+use Rattle.machine.specs.Line.{stepsOf}
+use Rattle.machine.specs.declared.Block.{Block}
+use Rattle.machine.specs.declared.Limits.{Limits}
+use Rattle.line.specs.Answers.{Answer}
+use Rattle.line.specs.Blocks.{mostHeld, Line, Call, freshLine, linePlan, lineAnswers, lineAfterAll}
+use Rattle.line.specs.Ring.{Ring, placeAt, blockIn, numbersIn}
+
+-- what is read past a line's end
+abbrev pub noBlock : Block
+noBlock = blockIn (Rattle.line.specs.Ring.noPlace)
+
+abbrev pub blockAt : List Block → ℕ → Block
+blockAt blocks k = getD blocks k noBlock
+
+-- the ring holds the line: its places from the first on are the line's blocks with their numbers, junction caps and
+-- limits, and the line can brake from the committed squared speed
+pub record Holds (r : Ring) (line : Line) : Type 0 where
+  pub limited : limitsRefusal (line .limits) ≡ 0
+  pub limits : r .limits ≡ line .limits
+  pub committed : r .committed ≡ line .committed
+  pub sized : length (r .places) ≡ mostHeld
+  pub room : length (line .blocks) ≤ mostHeld
+  pub counted : r .count ≡ length (line .blocks)
+  pub passed : (k : ℕ) → k < length (line .blocks) → blockRefusal (blockAt (line .blocks) k) ≡ 0
+  pub blocks : (k : ℕ) → k < length (line .blocks) → blockIn (placeAt r k) ≡ blockAt (line .blocks) k
+  pub numbers : (k : ℕ) → k < length (line .blocks) → numbersIn (placeAt r k) ≡ numbersOf (line .limits) (blockAt (line .blocks) k)
+  pub junctions : (k : ℕ) → 0 < k → k < length (line .blocks) → placeAt r k .junction ≡ capAt (stepsOf (line .limits) (line .blocks)) k
+  pub kept : (k : ℕ) → k < length (line .blocks) → placeAt r k .limit ≡ brake (drop (k + 1) (stepsOf (line .limits) (line .blocks)))
+  pub brakes : CanBrake (line .committed) (stepsOf (line .limits) (line .blocks))
+
+-- Demand 3 of a list of calls from a fresh planner with limits l: every call is answered as the line says; the number
+-- told is the line's; the plan shown is the line's highest lawful profile, so a lawful one exists and none is above it
+pub record Demand3 (l : Limits) (calls : List Call) (answers : List Answer) (told : ℕ) (shown : List ℕ) : Type 0 where
+  pub answered : answers ≡ lineAnswers (freshLine l) calls
+  pub number : told ≡ length (lineAfterAll (freshLine l) calls .blocks)
+  pub plan : shown ≡ linePlan (lineAfterAll (freshLine l) calls)
+  pub highest : Highest (lineAfterAll (freshLine l) calls .committed) (stepsOf l (lineAfterAll (freshLine l) calls .blocks)) shown
