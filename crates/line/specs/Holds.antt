@@ -1,12 +1,12 @@
 -- A ring that holds a line, and demand 3.
 use mathlib.Core.Path.{_≡_}
 use mathlib.Core.List.{List}
-use Prim.Native.Nat.{ℕ, _+_, _≤_, _<_}
-use lib.ListN.{length, getD, drop}
+use Prim.Native.Nat.{ℕ, zero, suc, _≤_, _<_}
+use lib.ListN.{length, getD}
 use Rattle.profile.specs.Line.{capAt, Highest}
-use Rattle.profile.specs.Passes.{CanBrake, brake}
+use Rattle.profile.specs.Passes.{CanBrake, Braked}
 use Rattle.machine.specs.Checks.{limitsRefusal, blockRefusal}
-use Rattle.machine.specs.Numbers.{numbersOf}
+use Rattle.machine.specs.Numbers.{numbersOf, blockCap}
 use Rattle.machine.specs.Line.{stepsOf}
 use Rattle.machine.specs.declared.Block.{Block}
 use Rattle.machine.specs.declared.Limits.{Limits}
@@ -21,8 +21,13 @@ noBlock = blockIn (Rattle.line.specs.Ring.noPlace)
 abbrev pub blockAt : List Block → ℕ → Block
 blockAt blocks k = getD blocks k noBlock
 
+-- the limits by junctions: that of a place is at the junction where its block ends
+abbrev pub keptAt : Ring → ℕ → ℕ
+keptAt r zero = 0
+keptAt r (suc k) = placeAt r k .limit
+
 -- the ring holds the line: its places from the first on are the line's blocks with their numbers, junction caps and
--- limits, and the line can brake from the committed squared speed
+-- limits, the line can brake from the committed squared speed, and that is within the first block's cap
 pub record Holds (r : Ring) (line : Line) : Type 0 where
   pub limited : limitsRefusal (line .limits) ≡ 0
   pub limits : r .limits ≡ line .limits
@@ -34,8 +39,9 @@ pub record Holds (r : Ring) (line : Line) : Type 0 where
   pub blocks : (k : ℕ) → k < length (line .blocks) → blockIn (placeAt r k) ≡ blockAt (line .blocks) k
   pub numbers : (k : ℕ) → k < length (line .blocks) → numbersIn (placeAt r k) ≡ numbersOf (line .limits) (blockAt (line .blocks) k)
   pub junctions : (k : ℕ) → 0 < k → k < length (line .blocks) → placeAt r k .junction ≡ capAt (stepsOf (line .limits) (line .blocks)) k
-  pub kept : (k : ℕ) → k < length (line .blocks) → placeAt r k .limit ≡ brake (drop (k + 1) (stepsOf (line .limits) (line .blocks)))
+  pub kept : Braked (stepsOf (line .limits) (line .blocks)) (keptAt r) 1
   pub brakes : CanBrake (line .committed) (stepsOf (line .limits) (line .blocks))
+  pub entered : 0 < length (line .blocks) → line .committed ≤ blockCap (line .limits) (blockAt (line .blocks) 0)
 
 -- Demand 3 of a list of calls from a fresh planner with limits l: every call is answered as the line says; the number
 -- told is the line's; the plan shown is the line's highest lawful profile, so a lawful one exists and none is above it
