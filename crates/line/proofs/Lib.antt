@@ -2,3 +2,4 @@
 pub mod Steps
 pub mod Places
 pub mod Walk
+pub mod Adds

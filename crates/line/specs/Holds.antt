@@ -26,8 +26,14 @@ abbrev pub keptAt : Ring → ℕ → ℕ
 keptAt r zero = 0
 keptAt r (suc k) = placeAt r k .limit
 
--- the ring holds the line: its places from the first on are the line's blocks with their numbers, junction caps and
--- limits, the line can brake from the committed squared speed, and that is within the first block's cap
+-- the ring's places from the first on are the blocks with their numbers and junction caps
+pub record Placed (r : Ring) (l : Limits) (blocks : List Block) : Type 0 where
+  pub block : (k : ℕ) → k < length blocks → blockIn (placeAt r k) ≡ blockAt blocks k
+  pub numbers : (k : ℕ) → k < length blocks → numbersIn (placeAt r k) ≡ numbersOf l (blockAt blocks k)
+  pub junction : (k : ℕ) → 0 < k → k < length blocks → placeAt r k .junction ≡ capAt (stepsOf l blocks) k
+
+-- the ring holds the line: its places are the line's blocks, its limits those of the line's backward pass; the line can
+-- brake from the committed squared speed, which is within the first block's cap
 pub record Holds (r : Ring) (line : Line) : Type 0 where
   pub limited : limitsRefusal (line .limits) ≡ 0
   pub limits : r .limits ≡ line .limits
@@ -36,9 +42,7 @@ pub record Holds (r : Ring) (line : Line) : Type 0 where
   pub room : length (line .blocks) ≤ mostHeld
   pub counted : r .count ≡ length (line .blocks)
   pub passed : (k : ℕ) → k < length (line .blocks) → blockRefusal (blockAt (line .blocks) k) ≡ 0
-  pub blocks : (k : ℕ) → k < length (line .blocks) → blockIn (placeAt r k) ≡ blockAt (line .blocks) k
-  pub numbers : (k : ℕ) → k < length (line .blocks) → numbersIn (placeAt r k) ≡ numbersOf (line .limits) (blockAt (line .blocks) k)
-  pub junctions : (k : ℕ) → 0 < k → k < length (line .blocks) → placeAt r k .junction ≡ capAt (stepsOf (line .limits) (line .blocks)) k
+  pub placed : Placed r (line .limits) (line .blocks)
   pub kept : Braked (stepsOf (line .limits) (line .blocks)) (keptAt r) 1
   pub brakes : CanBrake (line .committed) (stepsOf (line .limits) (line .blocks))
   pub entered : 0 < length (line .blocks) → line .committed ≤ blockCap (line .limits) (blockAt (line .blocks) 0)
