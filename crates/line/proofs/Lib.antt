@@ -3,3 +3,4 @@ pub mod Steps
 pub mod Places
 pub mod Walk
 pub mod Adds
+pub mod Takes
