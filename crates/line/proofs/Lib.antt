@@ -4,3 +4,5 @@ pub mod Places
 pub mod Walk
 pub mod Adds
 pub mod Takes
+pub mod Shows
+pub mod Demand
