@@ -3,8 +3,7 @@
 use mathlib.Core.Bool.{Bool, true, false}
 use mathlib.Core.Path.{_≡_, refl, ap, sym, subst, _∙_}
 use mathlib.Core.List.{List, [], _∷_, _++_}
-use Prim.Native.Nat.{ℕ, zero, suc, _+_, _-_, _≤_, _<_, zero-le}
-use native.Mathlib.Nat.{le-refl}
+use Prim.Native.Nat.{ℕ, zero, suc, _+_, _-_, _≤_, _<_}
 use native.Mathlib.Numerals.{add-one}
 use native.Mathlib.Decide.{decLt}
 use native.Mathlib.Omega.{arith}
@@ -13,26 +12,20 @@ use lib.Dec.{leb, eqb}
 use lib.ListN.{length, set, length-set, length-append, List·getD-append}
 use lib.Seq.{getD-at}
 use Rattle.profile.specs.Line.{Step, noStep, stepAt, capAt, reachAt}
-use Rattle.profile.specs.Passes.{startLimit, CanBrake, Braked}
+use Rattle.profile.specs.Passes.{startLimit, CanBrake}
 use Rattle.profile.proofs.Brake.{add-keeps}
 use Rattle.profile.proofs.Kept.{Extended, extended-first}
 use Rattle.machine.specs.Checks.{blockRefusal, pick}
 use Rattle.machine.specs.Line.{stepsOf}
-use Rattle.machine.specs.Numbers.{numbersOf, blockCap, reachOf}
+use Rattle.machine.specs.Numbers.{numbersOf, blockCap}
 use Rattle.machine.specs.declared.Block.{Block}
 use Rattle.machine.specs.declared.Limits.{Limits}
-use Rattle.machine.specs.declared.Numbers.{Numbers}
-use Rattle.line.specs.Blocks.{mostHeld, Line, Call, add, addRefusal, addAnswer, addAfter, orElse, lineAnswer, lineAfter}
-use Rattle.line.specs.Ring.{Place, Ring, cutLimits, slot, placeAt, withLimit, blockIn, numbersIn, placeOf, junctionAfter, newJunction, walkBack, putLast, addedIn, ringAnswer, ringAfter}
+use Rattle.line.specs.Blocks.{mostHeld, Line, add, addRefusal, addAnswer, addAfter, orElse, lineAnswer, lineAfter}
+use Rattle.line.specs.Ring.{Place, Ring, cutLimits, slot, placeAt, blockIn, numbersIn, placeOf, junctionAfter, newJunction, walkBack, putLast, addedIn, ringAnswer, ringAfter}
 use Rattle.line.specs.Holds.{noBlock, blockAt, keptAt, Placed, Holds}
-use Rattle.line.proofs.Steps.{steps-length, steps-reach, steps-first, steps-cap, steps-last}
-use Rattle.line.proofs.Places.{limits-kept, block-back, junction-back, place-same, place-other}
+use Rattle.line.proofs.Steps.{steps-length, steps-first, steps-cap, steps-last}
+use Rattle.line.proofs.Places.{limits-kept, block-back, junction-back, placed-reach, place-same, place-other}
 use Rattle.line.proofs.Walk.{Walked, walk-walked, Fitting, walk-braked}
-
--- the reaches of the places
-pub placed-reach : {r : Ring} {l : Limits} {blocks : List Block} → Placed r l blocks → (k : ℕ) → k < length blocks → placeAt r k .reach ≡ reachAt (stepsOf l blocks) k
-unfolding numbersOf
-placed-reach {r} {l} {blocks} p k h = ap (λ (n : Numbers). n .reach) (p .numbers k h) ∙ sym (steps-reach l blocks k h)
 
 -- places that differ in limits alone hold the same blocks
 placed-walked : {old new : Ring} {l : Limits} {blocks : List Block} → Walked old new → length blocks ≤ mostHeld → Placed old l blocks → Placed new l blocks
@@ -136,18 +129,18 @@ module _ {r : Ring} {line : Line} (b : Block) (h : Holds r line) (passed : block
   put-placed : Placed put (line .limits) longer
   put-placed = record {
     block =
-      more-each (line .blocks) b (λ k c. blockIn (placeAt put k) ≡ c)
-      (λ k g. ap blockIn (put-old k g) ∙ h .placed .block k g)
-      (ap blockIn put-last ∙ block-back b (numbersOf (line .limits) b) (capAt steps (length (line .blocks))) passed);
+        more-each (line .blocks) b (λ k c. blockIn (placeAt put k) ≡ c)
+        (λ k g. ap blockIn (put-old k g) ∙ h .placed .block k g)
+        (ap blockIn put-last ∙ block-back b (numbersOf (line .limits) b) (capAt steps (length (line .blocks))) passed);
     numbers =
-      more-each (line .blocks) b (λ k c. numbersIn (placeAt put k) ≡ numbersOf (line .limits) c)
-      (λ k g. ap numbersIn (put-old k g) ∙ h .placed .numbers k g)
-      (ap numbersIn put-last);
+        more-each (line .blocks) b (λ k c. numbersIn (placeAt put k) ≡ numbersOf (line .limits) c)
+        (λ k g. ap numbersIn (put-old k g) ∙ h .placed .numbers k g)
+        (ap numbersIn put-last);
     junction = λ k q g.
-      more-each (line .blocks) b (λ k c. 0 < k → placeAt put k .junction ≡ capAt steps k)
-      (λ k g q. ap (λ (p : Place). p .junction) (put-old k g) ∙ h .placed .junction k q g ∙ sym (steps-old (line .blocks) b (line .limits) k g))
-      (λ q. ap (λ (p : Place). p .junction) put-last)
-      k g q;
+        more-each (line .blocks) b (λ k c. 0 < k → placeAt put k .junction ≡ capAt steps k)
+        (λ k g q. ap (λ (p : Place). p .junction) (put-old k g) ∙ h .placed .junction k q g ∙ sym (steps-old (line .blocks) b (line .limits) k g))
+        (λ q. ap (λ (p : Place). p .junction) put-last)
+        k g q;
   }
 
   abbrev old : List Step
@@ -169,9 +162,9 @@ module _ {r : Ring} {line : Line} (b : Block) (h : Holds r line) (passed : block
   put-fits = record {
     sized = put-sized;
     caps = λ k q g.
-      put-placed .junction k q (omega (arith, old-length, more-length (line .blocks) b)) ∙ ap (λ (s : List Step). capAt s k) split;
+        put-placed .junction k q (omega (arith, old-length, more-length (line .blocks) b)) ∙ ap (λ (s : List Step). capAt s k) split;
     reaches = λ k q g.
-      placed-reach put-placed k (omega (arith, old-length, more-length (line .blocks) b)) ∙ ap (λ (s : List Step). reachAt s k) split;
+        placed-reach put-placed k (omega (arith, old-length, more-length (line .blocks) b)) ∙ ap (λ (s : List Step). reachAt s k) split;
   }
 
   put-extends : Extended old step (keptAt put) (r .count)

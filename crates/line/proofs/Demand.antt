@@ -1,16 +1,14 @@
 -- Demand 3 for a list of calls of any length, refused ones included. From the laws of one call, told and shown. Assumes nothing.
-use mathlib.Core.Path.{_≡_, refl, ap, sym, _∙_}
+use mathlib.Core.Path.{_≡_, refl, _∙_}
 use mathlib.Core.List.{List, [], _∷_}
-use Prim.Native.Nat.{ℕ, zero, suc, _≤_, _<_}
+use Prim.Native.Nat.{ℕ, zero, suc}
 use native.Mathlib.Omega.{arith}
 use lib.ListN.{length}
-use Rattle.profile.specs.Line.{Step, Highest}
-use Rattle.profile.specs.Passes.{startLimit, brake}
+use Rattle.profile.specs.Passes.{brake}
 use Rattle.machine.specs.Checks.{limitsRefusal}
 use Rattle.machine.specs.Line.{stepsOf}
 use Rattle.machine.specs.declared.Block.{Block}
 use Rattle.machine.specs.declared.Limits.{Limits}
-use Rattle.line.specs.Answers.{Answer}
 use Rattle.line.specs.Blocks.{mostHeld, Line, Call, add, take, freshLine, addRefusal, addAfter, takeAfter, linePlan, lineAnswer, lineAfter, lineAnswers, lineAfterAll}
 use Rattle.line.specs.Ring.{Place, Ring, freshRing, toldOf, shownIn, ringAnswer, ringAfter, ringAnswers, ringAfterAll}
 use Rattle.line.specs.Holds.{Holds, Demand3}

@@ -1,18 +1,21 @@
--- A place of the ring: the block, limits and junction cap that come back from it. From the ranges of what passes the checks.
+-- A place of the ring: the block, the limits, the junction cap and the reach that come back from it, and what a store changes.
+-- From the ranges of what passes the checks.
 -- Assumes nothing.
 use mathlib.Core.Logic.{_≢_}
-use mathlib.Core.Path.{_≡_, refl, ap, sym, _∙_}
+use mathlib.Core.Path.{_≡_, ap, sym, _∙_}
 use mathlib.Core.List.{List}
-use Prim.Native.Nat.{ℕ, zero, suc, _+_, _-_, _*_, _%_, _^_, _≤_, _<_, min}
+use Prim.Native.Nat.{ℕ, _%_, _^_, _<_}
 use native.Mathlib.Nat.{mod-eq-of-lt}
 use native.Mathlib.Omega.{arith}
 use lib.IntN.{ℤ, natAbs}
-use lib.ListN.{length, getD, set}
+use lib.ListN.{length}
 use lib.Seq.{getD-set-same, getD-set-other}
 use Rattle.fields.specs.Signed.{signedOf, bitsOf}
 use Rattle.fields.proofs.Signed.{signed-bits, mag-natAbs}
-use Rattle.machine.specs.Checks.{limitsRefusal, blockRefusal, movesOf}
-use Rattle.machine.specs.Numbers.{LimitsBelow, numbersOf, lengthOf, blockCap, junctionCap, cornerCap, cornerFrom, turnFrom, underCorner}
+use Rattle.profile.specs.Line.{reachAt}
+use Rattle.machine.specs.Checks.{limitsRefusal, blockRefusal}
+use Rattle.machine.specs.Line.{stepsOf}
+use Rattle.machine.specs.Numbers.{LimitsBelow, numbersOf, lengthOf, blockCap, junctionCap, cornerCap}
 use Rattle.machine.specs.declared.Block.{Block}
 use Rattle.machine.specs.declared.Limits.{Limits}
 use Rattle.machine.specs.declared.Numbers.{Numbers}
@@ -20,6 +23,8 @@ use Rattle.machine.proofs.Bounds.{moves-below}
 use Rattle.machine.proofs.Known.{limits-below, short}
 use Rattle.line.specs.Blocks.{mostHeld}
 use Rattle.line.specs.Ring.{Place, Ring, noPlace, cutLimits, slot, placeAt, withPlace, blockIn, numbersIn, placeOf, junctionAfter}
+use Rattle.line.specs.Holds.{Placed}
+use Rattle.line.proofs.Steps.{steps-reach}
 
 -- limits that pass 1 are used as they are
 pub limits-kept : (l : Limits) → limitsRefusal l ≡ 0 → cutLimits l ≡ l
@@ -55,6 +60,11 @@ junction-back l p a b r e n =
     let cap : p .cap ≡ blockCap l a = ap (λ (m : Numbers). m .cap) n in
     let cut : lengthOf a % 2 ^ 30 ≡ lengthOf a = omega (arith, short l a r) in
     rw (long, cap, cut, e)
+
+-- the reaches of the places are those of the steps
+pub placed-reach : {r : Ring} {l : Limits} {blocks : List Block} → Placed r l blocks → (k : ℕ) → k < length blocks → placeAt r k .reach ≡ reachAt (stepsOf l blocks) k
+unfolding numbersOf
+placed-reach {r} {l} {blocks} p k h = ap (λ (n : Numbers). n .reach) (p .numbers k h) ∙ sym (steps-reach l blocks k h)
 
 module _ (r : Ring) (sized : length (r .places) ≡ mostHeld) where
   -- what is stored at a place is read there,

@@ -1,8 +1,8 @@
 -- The number told and the plan shown by a ring that holds a line: the line's number of blocks and its highest lawful profile.
 -- From profile's laws of the plan. Assumes nothing.
 use mathlib.Core.Path.{_≡_, refl, ap, sym, _∙_}
-use mathlib.Core.List.{List, [], _∷_}
-use Prim.Native.Nat.{ℕ, zero, suc, _+_, _≤_, _<_}
+use mathlib.Core.List.{List, _∷_}
+use Prim.Native.Nat.{ℕ, zero, suc, _+_, _<_}
 use native.Mathlib.Omega.{arith}
 use lib.Dec.{eqb}
 use lib.ListN.{length, drop, drop-of-length-le}
@@ -15,9 +15,9 @@ use Rattle.machine.specs.Checks.{pick}
 use Rattle.machine.specs.Line.{stepsOf}
 use Rattle.line.specs.Blocks.{Line, linePlan}
 use Rattle.line.specs.Ring.{Ring, placeAt, toldOf, speedsFrom, shownIn, showRefusal}
-use Rattle.line.specs.Holds.{keptAt, Holds}
+use Rattle.line.specs.Holds.{Holds}
 use Rattle.line.proofs.Steps.{steps-length}
-use Rattle.line.proofs.Adds.{placed-reach}
+use Rattle.line.proofs.Places.{placed-reach}
 
 -- One number more than blocks is shown, whatever the ring holds.
 pub shown-length : (r : Ring) → length (shownIn r) ≡ toldOf r + 1

@@ -2,12 +2,12 @@
 -- Assumes nothing.
 use mathlib.Core.Path.{_≡_, refl, ap}
 use mathlib.Core.List.{List, [], _∷_, _++_}
-use Prim.Native.Nat.{ℕ, zero, suc, _+_, _≤_, _<_, zero-le}
+use Prim.Native.Nat.{ℕ, zero, suc, _≤_, _<_, zero-le}
 use native.Mathlib.Nat.{le-of-suc-le-suc, not-suc-le-zero}
 use native.Mathlib.Omega.{arith}
 use lib.ListN.{length, drop}
 use Rattle.profile.specs.Line.{Step, stepAt, capAt, reachAt}
-use Rattle.profile.specs.Passes.{brake, startLimit, CanBrake, Braked}
+use Rattle.profile.specs.Passes.{brake, CanBrake, Braked}
 use Rattle.profile.proofs.Plan.{startLimit-head}
 use Rattle.profile.proofs.Kept.{braked-head}
 use Rattle.machine.specs.Line.{stepsOf, stepsAfter}

@@ -1,30 +1,30 @@
 -- A take: a ring that holds a line answers as the line does and holds the rest afterwards. From profile's laws of the plan and
 -- those of steps and places. Assumes nothing.
-use mathlib.Core.Bool.{Bool, true, false, cond}
-use mathlib.Core.Path.{_≡_, refl, ap, sym, subst, _∙_}
+use mathlib.Core.Bool.{true, cond}
+use mathlib.Core.Path.{_≡_, refl, ap, _∙_}
 use mathlib.Core.List.{List, [], _∷_}
-use Prim.Native.Nat.{ℕ, zero, suc, _+_, _-_, _%_, _≤_, _<_}
+use Prim.Native.Nat.{ℕ, zero, suc, _+_, _<_}
 use native.Mathlib.Numerals.{add-one}
 use native.Mathlib.Omega.{arith}
 use lib.ListN.{length, drop, getD}
-use Rattle.profile.specs.Line.{Step, stepAt, reachAt, numberAt}
+use Rattle.profile.specs.Line.{Step, capAt, reachAt, numberAt}
 use Rattle.profile.specs.Passes.{brake, exitFrom, planOf, Braked}
 use Rattle.profile.proofs.Plan.{plan-first, plan-exit, take-keeps}
 use Rattle.profile.proofs.Highest.{plan-lawful}
 use Rattle.profile.proofs.Kept.{braked-taken}
 use Rattle.machine.specs.Line.{stepsOf}
-use Rattle.machine.specs.Numbers.{numbersOf, blockCap, reachOf, rampOf, rampable, noRamp}
+use Rattle.machine.specs.Numbers.{numbersOf, rampOf, rampable, noRamp}
 use Rattle.machine.specs.declared.Block.{Block}
 use Rattle.machine.specs.declared.Limits.{Limits}
 use Rattle.machine.specs.declared.Numbers.{Numbers}
 use Rattle.machine.proofs.Known.{rampable-within}
 use Rattle.line.specs.declared.Given.{Given}
 use Rattle.line.specs.Answers.{gave, givenOf}
-use Rattle.line.specs.Blocks.{mostHeld, Line, Call, take, takeAnswer, takeAfter, lineAnswer, lineAfter, linePlan}
+use Rattle.line.specs.Blocks.{Line, take, takeAnswer, takeAfter, lineAnswer, lineAfter}
 use Rattle.line.specs.Ring.{Place, Ring, noPlace, placeAt, blockIn, numbersIn, givenIn, takenFrom, takenAnswer, takenIn, ringAnswer, ringAfter}
-use Rattle.line.specs.Holds.{blockAt, keptAt, Placed, Holds}
+use Rattle.line.specs.Holds.{keptAt, Placed, Holds}
 use Rattle.line.proofs.Steps.{steps-length, steps-reach, rest-cap, rest-brakes, rest-braked, rest-under, rest-entered}
-use Rattle.line.proofs.Adds.{placed-reach}
+use Rattle.line.proofs.Places.{placed-reach}
 
 -- a block given out with a ramp where there is one
 abbrev rampedOf : Block → Numbers → (entry exit : ℕ) → Given
@@ -86,7 +86,7 @@ module _ {r : Ring} {l : Limits} {committed : ℕ} {a : Block} {rest : List Bloc
     junction = junction;
   }
     where
-      junction : (k : ℕ) → 0 < k → k < length rest → placeAt (takenFrom r) k .junction ≡ Rattle.profile.specs.Line.capAt (stepsOf l rest) k
+      junction : (k : ℕ) → 0 < k → k < length rest → placeAt (takenFrom r) k .junction ≡ capAt (stepsOf l rest) k
       junction zero p g = absurd (omega arith)
       junction (suc k) p g =
           ap (λ (p : Place). p .junction) (shifted (suc k)) ∙ h .placed .junction (suc (suc k)) (omega arith) (omega arith) ∙ rest-cap l a rest k

@@ -1,22 +1,21 @@
 -- Limits that pass 1 and the numbers of a block that passes 2 to 6: how large they are. From the checks and the laws of the numbers.
 -- Assumes nothing.
 use mathlib.Core.Path.{_≡_, refl}
-use mathlib.Core.Bool.{Bool, true, false, _&&_}
-use Prim.Native.Nat.{ℕ, zero, suc, _+_, _-_, _*_, _/_, _^_, _≤_, _<_, min, max, zero-le}
-use native.Mathlib.Nat.{mul-le-mul, le-trans, le-refl, min-le-left, min-le-right}
+use mathlib.Core.Bool.{Bool, true, false}
+use Prim.Native.Nat.{ℕ, zero, suc, _+_, _-_, _*_, _/_, _^_, _≤_, _<_, min}
+use native.Mathlib.Nat.{mul-le-mul, le-trans, le-refl, min-le-left}
 use native.Mathlib.Omega.{arith}
 use borrow.Author.Tests.{leb-true, le-leb, lt-ltb}
-use lib.Dec.{leb, ltb, eqb}
+use lib.Dec.{leb, eqb}
 use lib.ListN.{getD}
 use Rattle.arith.specs.Quotient.{cappedQuotient}
 use Rattle.arith.proofs.QuotientLaws.{quotient-is}
 use Rattle.machine.specs.Ranges.{mostAccel, mostFeed}
 use Rattle.machine.specs.Checks.{pick, within, axesWithin, limitsWithin, limitsRefusal, blockRefusal, movesOf}
-use Rattle.machine.specs.Numbers.{AxesBelow, LimitsBelow, unit, lengthOf, speedOf, torqueSteps, torquePercent, axisAccel, accelOf, reachFrom, reachOf, chordFactor, blockCapFrom, blockCap, CornerCap, none, upTo, underCorner, cornerCap, junctionCap, numbersOf, Rampable, rampable}
+use Rattle.machine.specs.Numbers.{AxesBelow, LimitsBelow, lengthOf, speedOf, torqueSteps, torquePercent, axisAccel, accelOf, reachFrom, reachOf, chordFactor, blockCapFrom, blockCap, CornerCap, none, upTo, underCorner, cornerCap, junctionCap, numbersOf, rampable}
 use Rattle.machine.specs.declared.Axes.{Axes}
 use Rattle.machine.specs.declared.Limits.{Limits}
 use Rattle.machine.specs.declared.Block.{Block}
-use Rattle.machine.specs.declared.Numbers.{Numbers}
 use Rattle.machine.proofs.Tests.{both}
 use Rattle.machine.proofs.Bounds.{in-range, moves-below, length-below}
 use Rattle.machine.proofs.Limited.{each-below}
