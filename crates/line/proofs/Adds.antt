@@ -40,6 +40,7 @@ module _ (blocks : List Block) (b : Block) where
   abbrev more : List Block
   more = blocks ++ b ∷ []
 
+  -- how many they are, the old ones among them, and the new one
   more-length : length more ≡ length blocks + 1
   more-length = length-append blocks (b ∷ [])
 
@@ -60,10 +61,11 @@ module _ (blocks : List Block) (b : Block) where
   ]
 
   module _ (l : Limits) where
-    -- the step of the new block, and those of the old ones
+    -- the step of the new block
     abbrev newStep : Step
     newStep = stepAt (stepsOf l more) (length blocks)
 
+    -- the caps of the old ones are as they were
     steps-old : (k : ℕ) → k < length blocks → capAt (stepsOf l more) k ≡ capAt (stepsOf l blocks) k
     steps-old k h =
         ap (λ (s : List Step). capAt s k) (steps-last l blocks b)
@@ -94,9 +96,11 @@ module _ {r : Ring} {line : Line} (b : Block) (h : Holds r line) (passed : block
   abbrev wanted : Place
   wanted = placeOf b (numbersOf (line .limits) b) (capAt steps (length (line .blocks)))
 
+  -- they are the same: the limits are used as they are,
   cut : cutLimits (r .limits) ≡ line .limits
   cut = ap cutLimits (h .limits) ∙ limits-kept (line .limits) (h .limited)
 
+  -- and the junction cap is that of the new step
   new-junction : newJunction r b ≡ capAt steps (length (line .blocks))
   new-junction = go (r .count) (h .counted)
     where
@@ -117,6 +121,7 @@ module _ {r : Ring} {line : Line} (b : Block) (h : Holds r line) (passed : block
   abbrev put : Ring
   put = record { limits = r .limits; first = r .first; count = r .count + 1; committed = r .committed; places = set (r .places) (slot r (r .count)) stored }
 
+  -- it has 64 places, the old blocks' as they were and the new one's
   put-sized : length (put .places) ≡ mostHeld
   put-sized = length-set (r .places) (slot r (r .count)) stored ∙ h .sized
 
@@ -126,6 +131,7 @@ module _ {r : Ring} {line : Line} (b : Block) (h : Holds r line) (passed : block
   put-last : placeAt put (length (line .blocks)) ≡ wanted
   put-last = rw (← h .counted) (place-same r (h .sized) (r .count) stored) ∙ stored-is
 
+  -- which are the blocks of the longer line
   put-placed : Placed put (line .limits) longer
   put-placed = record {
     block =
@@ -143,6 +149,7 @@ module _ {r : Ring} {line : Line} (b : Block) (h : Holds r line) (passed : block
         k g q;
   }
 
+  -- the longer line's steps are the old ones and one more
   abbrev old : List Step
   old = stepsOf (line .limits) (line .blocks)
 
@@ -158,6 +165,7 @@ module _ {r : Ring} {line : Line} (b : Block) (h : Holds r line) (passed : block
   split : steps ≡ old ++ (step ∷ [])
   split = steps-last (line .limits) (line .blocks) b
 
+  -- so the walk back may begin: the caps and reaches fit,
   put-fits : Fitting old step old-room put
   put-fits = record {
     sized = put-sized;
@@ -167,6 +175,7 @@ module _ {r : Ring} {line : Line} (b : Block) (h : Holds r line) (passed : block
         placed-reach put-placed k (omega (arith, old-length, more-length (line .blocks) b)) ∙ ap (λ (s : List Step). reachAt s k) split;
   }
 
+  -- and the limits are still those of the old line
   put-extends : Extended old step (keptAt put) (r .count)
   put-extends =
       extended-first old step (keptAt r) (keptAt put) (r .count) (h .counted ∙ sym old-length)

@@ -42,6 +42,7 @@ limits-kept l e =
       mod-eq-of-lt (b .4),
     )
 
+-- a move comes back from its 21 bits
 move-back : (z : ℤ) → natAbs z < 2 ^ 20 → signedOf 21 (bitsOf 21 z) ≡ z
 move-back z h = signed-bits 21 z (omega arith) (omega (arith, mag-natAbs z))
 

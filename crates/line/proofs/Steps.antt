@@ -18,6 +18,7 @@ use Rattle.machine.proofs.Known.{junction-under}
 use Rattle.line.specs.Holds.{blockAt}
 
 module _ (l : Limits) where
+  -- the steps after a block: how many, their reaches and caps, and one more put last
   after-length : (a : Block) (blocks : List Block) → length (stepsAfter l a blocks) ≡ length blocks
   unfolding stepsAfter
   after-length a [] = refl

@@ -38,10 +38,11 @@ rampedOf b n entry exit =
       ramp = cond (rampable n entry exit) (rampOf n entry exit) noRamp;
     }
 
--- a line with a first block
+-- a line by its parts
 abbrev lineOf : Limits → (committed : ℕ) → List Block → Line
 lineOf l committed blocks = record { limits = l; committed = committed; blocks = blocks }
 
+-- a ring that holds a line with a first block
 module _ {r : Ring} {l : Limits} {committed : ℕ} {a : Block} {rest : List Block} (h : Holds r (lineOf l committed (a ∷ rest))) where
   abbrev steps : List Step
   steps = stepsOf l (a ∷ rest)
@@ -49,9 +50,11 @@ module _ {r : Ring} {l : Limits} {committed : ℕ} {a : Block} {rest : List Bloc
   abbrev exit : ℕ
   exit = numberAt (planOf committed steps) 1
 
+  -- there is a first step
   some : 0 < length steps
   some = omega (arith, steps-length l (a ∷ rest))
 
+  -- the exit by the backward pass after the block
   exit-is : exit ≡ exitFrom committed (reachAt steps 0) (brake (drop 1 steps))
   exit-is = plan-exit committed steps (h .brakes) some
 
@@ -68,6 +71,7 @@ module _ {r : Ring} {l : Limits} {committed : ℕ} {a : Block} {rest : List Bloc
       (omega (arith, lawful .falls 0 some, lawful .begins, steps-reach l (a ∷ rest) 0 (omega arith)))
       (omega (arith, lawful .rises 0 some, lawful .begins, steps-reach l (a ∷ rest) 0 (omega arith)))
 
+  -- so the block is given out as the line says
   given-right : givenIn r ≡ givenOf l a (numberAt (planOf committed steps) 0) exit
   unfolding givenIn givenOf
   given-right =
@@ -79,6 +83,7 @@ module _ {r : Ring} {l : Limits} {committed : ℕ} {a : Block} {rest : List Bloc
   unfolding takenFrom
   shifted k = ap (λ (s : ℕ). getD (r .places) s noPlace) (omega arith)
 
+  -- the places after the first are the blocks of the rest,
   taken-placed : Placed (takenFrom r) l rest
   taken-placed = record {
     block = λ k g. ap blockIn (shifted k) ∙ h .placed .block (suc k) (omega arith);
@@ -91,6 +96,7 @@ module _ {r : Ring} {l : Limits} {committed : ℕ} {a : Block} {rest : List Bloc
       junction (suc k) p g =
           ap (λ (p : Place). p .junction) (shifted (suc k)) ∙ h .placed .junction (suc (suc k)) (omega arith) (omega arith) ∙ rest-cap l a rest k
 
+  -- with the limits of the rest's backward pass,
   taken-kept : Braked (stepsOf l rest) (keptAt (takenFrom r)) 1
   taken-kept =
       rest-braked l a (keptAt (takenFrom r)) rest
@@ -100,6 +106,7 @@ module _ {r : Ring} {l : Limits} {committed : ℕ} {a : Block} {rest : List Bloc
       same zero p = absurd (omega arith)
       same (suc k) p = rw (add-one (suc k)) (ap (λ (p : Place). p .limit) (shifted k))
 
+  -- so the ring holds the rest
   taken-holds : Holds (takenFrom r) (lineOf l exit rest)
   unfolding takenFrom
   taken-holds = record {

@@ -22,7 +22,6 @@ use Rattle.line.proofs.Places.{place-same, place-other}
 -- a ring of 64 places that differs from another in limits of places alone
 pub record Walked (old new : Ring) : Type 0 where
   pub limits : new .limits ≡ old .limits
-  pub first : new .first ≡ old .first
   pub count : new .count ≡ old .count
   pub committed : new .committed ≡ old .committed
   pub sized : length (new .places) ≡ mostHeld
@@ -33,23 +32,26 @@ abbrev pub limited : Ring → (k v : ℕ) → Ring
 limited r k v = withPlace r k (withLimit (placeAt r k) v)
 
 module _ (r : Ring) (sized : length (r .places) ≡ mostHeld) where
+  -- it does from itself
   walked-none : Walked r r
-  walked-none = record { limits = refl; first = refl; count = refl; committed = refl; sized = sized; same = λ k h. refl }
+  walked-none = record { limits = refl; count = refl; committed = refl; sized = sized; same = λ k h. refl }
 
   module _ (k v : ℕ) (inside : k < mostHeld) where
+    -- with a new limit there are 64 places still,
     limited-sized : length (limited r k v .places) ≡ mostHeld
     limited-sized = length-set (r .places) (slot r k) (withLimit (placeAt r k) v) ∙ sized
 
+    -- each the same but for its limit
     limited-same : (j : ℕ) → j < mostHeld → withLimit (placeAt (limited r k v) j) 0 ≡ withLimit (placeAt r j) 0
     limited-same j h = elim (ℕ-discrete j k) [
       | yes e ↦ rw (e, place-same r sized k (withLimit (placeAt r k) v))
       | no d ↦ rw (place-other r sized k j (withLimit (placeAt r k) v) inside h d)
     ]
 
+    -- and a ring that differs from that one in limits differs from the old one in limits
     walked-more : (new : Ring) → Walked (limited r k v) new → Walked r new
     walked-more new w = record {
       limits = w .limits;
-      first = w .first;
       count = w .count;
       committed = w .committed;
       sized = w .sized;
@@ -85,9 +87,11 @@ module _ (line : List Step) (s : Step) (room : length line < mostHeld) where
     pub reaches : (k : ℕ) → 0 < k → k ≤ length line → placeAt r k .reach ≡ reachAt (line ++ (s ∷ [])) k
 
   module _ (r : Ring) (f : Fitting r) (k : ℕ) (h : suc k ≤ length line) where
+    -- the ring after one step of the walk
     next : Ring
     next = limited r k (brakeAt r (suc k))
 
+    -- its caps and reaches fit
     fitting-next : Fitting next
     unfolding next
     fitting-next = record {
@@ -96,10 +100,11 @@ module _ (line : List Step) (s : Step) (room : length line < mostHeld) where
       reaches = λ j p q. ap (λ (p : Place). p .reach) (limited-same r (f .sized) k (brakeAt r (suc k)) (omega arith) j (omega arith)) ∙ f .reaches j p q;
     }
 
-    -- what the walk stores is right by its neighbour
+    -- the number stored is right by its neighbour
     brake-right : brakeAt r (suc k) ≡ brakeFrom (capAt (line ++ (s ∷ [])) (suc k)) (reachAt (line ++ (s ∷ [])) (suc k)) (keptAt r (suc k + 1))
     brake-right = rw (add-one (suc k), f .caps (suc k) (omega arith) h, f .reaches (suc k) (omega arith) h)
 
+    -- so the longer line's numbers reach one junction further
     extended-next : Extended line s (keptAt r) (suc k) → Extended line s (keptAt next) k
     unfolding next
     extended-next x =

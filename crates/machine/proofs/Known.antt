@@ -24,6 +24,7 @@ use Rattle.machine.proofs.Limited.{each-below}
 not-above : (low high value : ℕ) → within low high value ≡ true → value ≤ high
 not-above low high value e = leb-true value high (both (leb low value) (leb value high) e .1)
 
+-- the same on every axis
 axes-below : (high bound : ℕ) (a : Axes) → high < bound → axesWithin high a ≡ true → AxesBelow bound a
 axes-below high bound a h e =
     let last = both _ _ e in
@@ -33,6 +34,7 @@ axes-below high bound a h e =
     let z = not-above 1 high (a .z) (last .1) in
     (omega arith, omega arith, omega arith)
 
+-- no refusal says that the test held
 picked : (t : Bool) → pick t 0 1 ≡ 0 → t ≡ true
 picked true e = refl
 picked false e = absurd (omega arith)
@@ -90,7 +92,7 @@ pub cap-feed : (l : Limits) (b : Block) → blockCap l b ≤ b .feed * b .feed
 unfolding speedOf
 cap-feed l b = le-trans (cap-speed l (b .radius) (speedOf l b)) (mul-le-mul (each-below _ _ _ _) (each-below _ _ _ _))
 
--- the numbers of a block that passes 2 to 6
+-- of a block that passes 2 to 6 the cap is below 2^50, the length below 2^25, the reach below 2^62
 module _ (l : Limits) (b : Block) (passed : blockRefusal b ≡ 0) where
   pub cap-below : blockCap l b < 2 ^ 50
   cap-below =
