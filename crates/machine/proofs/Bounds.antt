@@ -9,6 +9,7 @@ use lib.Dec.{leb, ltb, eqb, lit<}
 use Rattle.arith.specs.Root.{rootOf}
 use Rattle.arith.proofs.RootLaws.{root-is}
 use Rattle.arith.proofs.Squares.{square-less}
+use Rattle.machine.proofs.Tests.{both}
 use Rattle.machine.specs.Ranges.{mostMove, mostFeed, mostRadius, mostMark}
 use Rattle.machine.specs.Checks.{pick, within, movesOf, greatestMove, blockRefusal}
 use Rattle.machine.specs.Numbers.{AxesBelow, unit, lengthFrom}
@@ -28,14 +29,6 @@ pub record InRange (b : Block) : Type 0 where
 not-picked : (t : Bool) (n m : ℕ) → 0 < n → pick t n m ≡ 0 → (t ≡ false) × (m ≡ 0)
 not-picked true n m p e = absurd (omega arith)
 not-picked false n m p e = (refl, e)
-
-both : (a b : Bool) → a && b ≡ true → (a ≡ true) × (b ≡ true)
-both true true e = (refl, refl)
-both true false e = (refl, e)
-both false b e = (e, absurd (differ e))
-  where
-    differ : false ≡ true → ⊥
-    differ p = let z : _≡_ {A = ℕ} 0 1 = cc in omega arith
 
 above : (n : ℕ) → eqb n 0 ≡ false → 0 < n
 above n e = omega (arith, eqb-false n 0 e)

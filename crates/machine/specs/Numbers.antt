@@ -2,7 +2,8 @@
 -- Lengths are in µm, speeds in µm/s, squared speeds and reaches in (µm/s)², accelerations in µm/s².
 use mathlib.Core.List.{List, [], _∷_}
 use Prim.Native.Nat.{ℕ, zero, suc, _+_, _-_, _*_, _/_, _^_, _≤_, _<_, min, max}
-use lib.Dec.{eqb}
+use mathlib.Core.Bool.{Bool, _&&_}
+use lib.Dec.{leb, ltb, eqb}
 use lib.IntN.{ℤ, pos, _+ℤ_, _*ℤ_}
 use lib.ListN.{getD}
 use Rattle.arith.specs.Root.{rootOf}
@@ -147,6 +148,15 @@ pub record Rampable (n : Numbers) (entry exit : ℕ) : Type 0 where
   pub falls : entry ≤ exit + n .reach
   pub rises : exit ≤ entry + n .reach
 
+-- the test for it
+abbrev pub sized : Numbers → (entry exit : ℕ) → Bool
+sized n entry exit =
+    ((ltb 0 (n .accel) && ltb (n .accel) (2 ^ 32)) && (ltb (n .cap) (2 ^ 50) && ltb (n .reach) (2 ^ 62)))
+    && (leb entry (n .cap) && leb exit (n .cap))
+
+unfoldable pub rampable : Numbers → (entry exit : ℕ) → Bool
+rampable n entry exit = sized n entry exit && (leb entry (exit + n .reach) && leb exit (entry + n .reach))
+
 -- Ramp of a block with entry and exit squared speeds
 unfoldable pub rampOf : Numbers → (entry exit : ℕ) → Ramp
 rampOf n entry exit =
@@ -154,3 +164,7 @@ rampOf n entry exit =
     let up = upOf (peak - entry) (n .accel) in
     let down = downOf (peak - exit) (n .accel) in
     record { peak = peak; up = up; cruise = n .length - up - down; down = down }
+
+-- what stands for a ramp where there is none
+abbrev pub noRamp : Ramp
+noRamp = record { peak = 0; up = 0; cruise = 0; down = 0 }

@@ -1,7 +1,7 @@
 // The ramp of a block between its entry and exit squared speeds.
 ghost use mathlib.Core.Path.{_≡_};
-ghost use Prim.Native.Nat.{_*_};
-ghost use Rattle.machine.specs.Numbers.{Rampable, downOf, rampOf, upOf};
+ghost use mathlib.Core.Bool.{cond};
+ghost use Rattle.machine.specs.Numbers.{Rampable, noRamp, rampOf, rampable, sized};
 use crate::Numbers;
 use crate::Ramp;
 use crate::measure::UNIT;
@@ -9,7 +9,7 @@ use arith::whole::less;
 use arith::whole::smaller;
 
 // The ramp. Only a plan's speeds meet what is required of entry and exit.
-pub fn ramp(n: Numbers, entry: u64, exit: u64) -> Ramp
+fn ramp(n: Numbers, entry: u64, exit: u64) -> Ramp
     requires { ⌜ Rampable n entry exit ⌝ }
     ensures { λ r. ⌜ r ≡ rampOf n entry exit ⌝ }
 {
@@ -21,5 +21,32 @@ pub fn ramp(n: Numbers, entry: u64, exit: u64) -> Ramp
         up: up,
         cruise: less(less(n.length, up), down),
         down: down,
+    }
+}
+
+// Whether acceleration, cap and reach are those of a block, and the speeds are under the cap.
+fn is_sized(n: Numbers, entry: u64, exit: u64) -> bool
+    ensures { λ r. ⌜ r ≡ sized n entry exit ⌝ }
+{
+    let accel = (0 < n.accel) & (n.accel < 0x1_0000_0000);
+    let room = (n.cap < 0x4_0000_0000_0000) & (n.reach < 0x4000_0000_0000_0000);
+    let capped = (entry <= n.cap) & (exit <= n.cap);
+    (accel & room) & capped
+}
+
+// The ramp of a plan's speeds; zeros for speeds that no plan has.
+pub fn ramp_between(n: Numbers, entry: u64, exit: u64) -> Ramp
+    ensures { λ r. ⌜ r ≡ cond (rampable n entry exit) (rampOf n entry exit) noRamp ⌝ }
+{
+    if is_sized(n, entry, exit) {
+        if (entry <= exit + n.reach) & (exit <= entry + n.reach) {
+            return ramp(n, entry, exit);
+        }
+    }
+    Ramp {
+        peak: 0,
+        up: 0,
+        cruise: 0,
+        down: 0,
     }
 }

@@ -1,0 +1,227 @@
+-- An add: a ring that holds a line answers as the line does and holds the line afterwards. From the laws of steps, places and
+-- the walk back. Assumes nothing.
+use mathlib.Core.Bool.{Bool, true, false}
+use mathlib.Core.Path.{_≡_, refl, ap, sym, subst, _∙_}
+use mathlib.Core.List.{List, [], _∷_, _++_}
+use Prim.Native.Nat.{ℕ, zero, suc, _+_, _-_, _≤_, _<_}
+use native.Mathlib.Numerals.{add-one}
+use native.Mathlib.Decide.{decLt}
+use native.Mathlib.Omega.{arith}
+use borrow.Author.Tests.{leb-false, ne-eqb}
+use lib.Dec.{leb, eqb}
+use lib.ListN.{length, set, length-set, length-append, List·getD-append}
+use lib.Seq.{getD-at}
+use Rattle.profile.specs.Line.{Step, noStep, stepAt, capAt, reachAt}
+use Rattle.profile.specs.Passes.{startLimit, CanBrake}
+use Rattle.profile.proofs.Brake.{add-keeps}
+use Rattle.profile.proofs.Kept.{Extended, extended-first}
+use Rattle.machine.specs.Checks.{blockRefusal, pick}
+use Rattle.machine.specs.Line.{stepsOf}
+use Rattle.machine.specs.Numbers.{numbersOf, blockCap}
+use Rattle.machine.specs.declared.Block.{Block}
+use Rattle.machine.specs.declared.Limits.{Limits}
+use Rattle.line.specs.Blocks.{mostHeld, Line, add, addRefusal, addAnswer, addAfter, orElse, lineAnswer, lineAfter}
+use Rattle.line.specs.Ring.{Place, Ring, cutLimits, slot, placeAt, blockIn, numbersIn, placeOf, junctionAfter, newJunction, walkBack, putLast, addedIn, ringAnswer, ringAfter}
+use Rattle.line.specs.Holds.{noBlock, blockAt, keptAt, Placed, Holds}
+use Rattle.line.proofs.Steps.{steps-length, steps-first, steps-cap, steps-last}
+use Rattle.line.proofs.Places.{limits-kept, block-back, junction-back, placed-reach, place-same, place-other}
+use Rattle.line.proofs.Walk.{Walked, walk-walked, Fitting, walk-braked}
+
+-- places that differ in limits alone hold the same blocks
+placed-walked : {old new : Ring} {l : Limits} {blocks : List Block} → Walked old new → length blocks ≤ mostHeld → Placed old l blocks → Placed new l blocks
+placed-walked w room p = record {
+  block = λ k h. ap blockIn (w .same k (omega arith)) ∙ p .block k h;
+  numbers = λ k h. ap numbersIn (w .same k (omega arith)) ∙ p .numbers k h;
+  junction = λ k q h. ap (λ (p : Place). p .junction) (w .same k (omega arith)) ∙ p .junction k q h;
+}
+
+-- the blocks of a line with one block more
+module _ (blocks : List Block) (b : Block) where
+  abbrev more : List Block
+  more = blocks ++ b ∷ []
+
+  -- how many they are, the old ones among them, and the new one
+  more-length : length more ≡ length blocks + 1
+  more-length = length-append blocks (b ∷ [])
+
+  more-old : (k : ℕ) → k < length blocks → blockAt more k ≡ blockAt blocks k
+  more-old k h = List·getD-append blocks (b ∷ []) noBlock k h
+
+  more-last : blockAt more (length blocks) ≡ b
+  more-last = getD-at blocks b [] noBlock (length blocks) refl
+
+  -- what holds of the old ones and of the new one holds of all
+  more-each : (P : ℕ → Block → Type 0) → ((k : ℕ) → k < length blocks → P k (blockAt blocks k)) → P (length blocks) b
+      → (k : ℕ) → k < length more → P k (blockAt more k)
+  more-each P old new k h = elim (decLt k (length blocks)) [
+    | yes g ↦ rw (more-old k g) (old k g)
+    | no g ↦
+        let last : k ≡ length blocks = omega (arith, more-length) in
+        rw (last, more-last) new
+  ]
+
+  module _ (l : Limits) where
+    -- the step of the new block
+    abbrev newStep : Step
+    newStep = stepAt (stepsOf l more) (length blocks)
+
+    -- the caps of the old ones are as they were
+    steps-old : (k : ℕ) → k < length blocks → capAt (stepsOf l more) k ≡ capAt (stepsOf l blocks) k
+    steps-old k h =
+        ap (λ (s : List Step). capAt s k) (steps-last l blocks b)
+        ∙ ap (λ (s : Step). s .cap) (List·getD-append (stepsOf l blocks) (newStep ∷ []) noStep k (omega (arith, steps-length l blocks)))
+
+    -- the committed squared speed stays within the first block's cap: in an empty line it is 0
+    more-entered : (committed : ℕ) → CanBrake committed (stepsOf l blocks) → (0 < length blocks → committed ≤ blockCap l (blockAt blocks 0))
+        → committed ≤ blockCap l (blockAt more 0)
+    unfolding stepsOf startLimit
+    more-entered committed = go blocks
+      where
+        go : (bs : List Block) → CanBrake committed (stepsOf l bs) → (0 < length bs → committed ≤ blockCap l (blockAt bs 0)) → committed ≤ blockCap l (blockAt (bs ++ b ∷ []) 0)
+        go [] c e = omega arith
+        go (a ∷ bs) c e = e (omega arith)
+
+-- a block that passes 2 to 6, put last in a ring with room
+module _ {r : Ring} {line : Line} (b : Block) (h : Holds r line) (passed : blockRefusal b ≡ 0) (room : length (line .blocks) < mostHeld) where
+  abbrev longer : List Block
+  longer = line .blocks ++ b ∷ []
+
+  abbrev steps : List Step
+  steps = stepsOf (line .limits) longer
+
+  -- the place as the ring's definition has it, and as the line has it
+  abbrev stored : Place
+  stored = placeOf b (numbersOf (cutLimits (r .limits)) b) (newJunction r b)
+
+  abbrev wanted : Place
+  wanted = placeOf b (numbersOf (line .limits) b) (capAt steps (length (line .blocks)))
+
+  -- they are the same: the limits are used as they are,
+  cut : cutLimits (r .limits) ≡ line .limits
+  cut = ap cutLimits (h .limits) ∙ limits-kept (line .limits) (h .limited)
+
+  -- and the junction cap is that of the new step
+  new-junction : newJunction r b ≡ capAt steps (length (line .blocks))
+  new-junction = go (r .count) (h .counted)
+    where
+      go : (c : ℕ) → c ≡ length (line .blocks)
+          → pick (eqb c 0) 0 (junctionAfter (cutLimits (r .limits)) (placeAt r (c - 1)) b (numbersOf (cutLimits (r .limits)) b)) ≡ capAt steps (length (line .blocks))
+      go zero e = rw (← e) (sym (steps-first (line .limits) longer))
+      go (suc c) e =
+          let before : suc c - 1 ≡ c = omega arith in
+          let held : c < length (line .blocks) = omega arith in
+          let last : blockAt longer (suc c) ≡ b = rw e (more-last (line .blocks) b) in
+          rw (ne-eqb (suc c) 0 (omega arith), before, cut, ← e, steps-cap (line .limits) longer c (omega (arith, more-length (line .blocks) b)), more-old (line .blocks) b c held, last)
+          (junction-back (line .limits) (placeAt r c) (blockAt (line .blocks) c) b (h .passed c held) (h .placed .block c held) (h .placed .numbers c held))
+
+  stored-is : stored ≡ wanted
+  stored-is = λ i. placeOf b (numbersOf (cut i) b) (new-junction i)
+
+  -- the ring with the block in its place
+  abbrev put : Ring
+  put = record { limits = r .limits; first = r .first; count = r .count + 1; committed = r .committed; places = set (r .places) (slot r (r .count)) stored }
+
+  -- it has 64 places, the old blocks' as they were and the new one's
+  put-sized : length (put .places) ≡ mostHeld
+  put-sized = length-set (r .places) (slot r (r .count)) stored ∙ h .sized
+
+  put-old : (k : ℕ) → k < length (line .blocks) → placeAt put k ≡ placeAt r k
+  put-old k g = place-other r (h .sized) (r .count) k stored (omega (arith, h .counted)) (omega arith) (omega (arith, h .counted))
+
+  put-last : placeAt put (length (line .blocks)) ≡ wanted
+  put-last = rw (← h .counted) (place-same r (h .sized) (r .count) stored) ∙ stored-is
+
+  -- which are the blocks of the longer line
+  put-placed : Placed put (line .limits) longer
+  put-placed = record {
+    block =
+        more-each (line .blocks) b (λ k c. blockIn (placeAt put k) ≡ c)
+        (λ k g. ap blockIn (put-old k g) ∙ h .placed .block k g)
+        (ap blockIn put-last ∙ block-back b (numbersOf (line .limits) b) (capAt steps (length (line .blocks))) passed);
+    numbers =
+        more-each (line .blocks) b (λ k c. numbersIn (placeAt put k) ≡ numbersOf (line .limits) c)
+        (λ k g. ap numbersIn (put-old k g) ∙ h .placed .numbers k g)
+        (ap numbersIn put-last);
+    junction = λ k q g.
+        more-each (line .blocks) b (λ k c. 0 < k → placeAt put k .junction ≡ capAt steps k)
+        (λ k g q. ap (λ (p : Place). p .junction) (put-old k g) ∙ h .placed .junction k q g ∙ sym (steps-old (line .blocks) b (line .limits) k g))
+        (λ q. ap (λ (p : Place). p .junction) put-last)
+        k g q;
+  }
+
+  -- the longer line's steps are the old ones and one more
+  abbrev old : List Step
+  old = stepsOf (line .limits) (line .blocks)
+
+  abbrev step : Step
+  step = newStep (line .blocks) b (line .limits)
+
+  old-length : length old ≡ length (line .blocks)
+  old-length = steps-length (line .limits) (line .blocks)
+
+  old-room : length old < mostHeld
+  old-room = omega (arith, old-length)
+
+  split : steps ≡ old ++ (step ∷ [])
+  split = steps-last (line .limits) (line .blocks) b
+
+  -- so the walk back may begin: the caps and reaches fit,
+  put-fits : Fitting old step old-room put
+  put-fits = record {
+    sized = put-sized;
+    caps = λ k q g.
+        put-placed .junction k q (omega (arith, old-length, more-length (line .blocks) b)) ∙ ap (λ (s : List Step). capAt s k) split;
+    reaches = λ k q g.
+        placed-reach put-placed k (omega (arith, old-length, more-length (line .blocks) b)) ∙ ap (λ (s : List Step). reachAt s k) split;
+  }
+
+  -- and the limits are still those of the old line
+  put-extends : Extended old step (keptAt put) (r .count)
+  put-extends =
+      extended-first old step (keptAt r) (keptAt put) (r .count) (h .counted ∙ sym old-length)
+      (rw (add-one (r .count)) (ap (λ (p : Place). p .limit) (place-same r (h .sized) (r .count) stored)))
+      same (h .kept)
+    where
+      same : (i : ℕ) → 0 < i → i ≤ r .count → keptAt put i ≡ keptAt r i
+      same zero p q = refl
+      same (suc k) p q = ap (λ (p : Place). p .limit) (put-old k (omega (arith, h .counted)))
+
+  -- after the walk back the ring holds the line with the block last
+  put-holds : Holds (putLast r b) (record { limits = line .limits; committed = line .committed; blocks = longer })
+  unfolding putLast
+  put-holds =
+      let w : Walked put (walkBack (r .count) put) = walk-walked (r .count) put put-sized (omega (arith, h .counted)) in
+      record {
+        limited = h .limited;
+        limits = w .limits ∙ h .limits;
+        committed = w .committed ∙ h .committed;
+        sized = w .sized;
+        room = omega (arith, more-length (line .blocks) b);
+        counted = omega (arith, w .count, h .counted, more-length (line .blocks) b);
+        passed = more-each (line .blocks) b (λ k c. blockRefusal c ≡ 0) (h .passed) passed;
+        placed = placed-walked w (omega (arith, more-length (line .blocks) b)) put-placed;
+        kept = rw split (walk-braked old step old-room (r .count) put put-fits (omega (arith, h .counted, old-length)) put-extends);
+        brakes = rw split (add-keeps (line .committed) old (step ∷ []) (h .brakes));
+        entered = λ q. more-entered (line .blocks) b (line .limits) (line .committed) (h .brakes) (h .entered);
+      }
+
+-- an add that is not refused: its block passes 2 to 6 and there is room
+not-refused : (held : ℕ) (b : Block) → addRefusal held b ≡ 0 → (blockRefusal b ≡ 0) × (held < mostHeld)
+not-refused held b = go (blockRefusal b) (leb mostHeld held) refl
+  where
+    go : (n : ℕ) (t : Bool) → leb mostHeld held ≡ t → orElse n (pick t 7 0) ≡ 0 → (n ≡ 0) × (held < mostHeld)
+    go zero true f e = absurd (omega arith)
+    go zero false f e = (refl, leb-false mostHeld held f)
+    go (suc n) t f e = absurd (omega arith)
+
+-- An add is answered as the line says, and the ring holds the line afterwards.
+pub holds-add : {r : Ring} {line : Line} (b : Block) → Holds r line
+    → (ringAnswer r (add b) ≡ lineAnswer line (add b)) × Holds (ringAfter r (add b)) (lineAfter line (add b))
+unfolding ringAnswer lineAnswer ringAfter lineAfter
+holds-add {r} {line} b h =
+    let same : addRefusal (r .count) b ≡ addRefusal (length (line .blocks)) b = ap (λ (n : ℕ). addRefusal n b) (h .counted) in
+    (ap addAnswer same, subst (λ (n : ℕ). Holds (addedIn n r b) (addAfter (addRefusal (length (line .blocks)) b) line b)) (sym same) (go _ refl))
+  where
+    go : (n : ℕ) → addRefusal (length (line .blocks)) b ≡ n → Holds (addedIn n r b) (addAfter n line b)
+    go zero e = let a = not-refused (length (line .blocks)) b e in put-holds b h (a .0) (a .1)
+    go (suc n) e = h

@@ -1,0 +1,82 @@
+-- Demand 3 for a list of calls of any length, refused ones included. From the laws of one call, told and shown. Assumes nothing.
+use mathlib.Core.Path.{_≡_, refl, _∙_}
+use mathlib.Core.List.{List, [], _∷_}
+use Prim.Native.Nat.{ℕ, zero, suc}
+use native.Mathlib.Omega.{arith}
+use lib.ListN.{length}
+use Rattle.profile.specs.Passes.{brake}
+use Rattle.machine.specs.Checks.{limitsRefusal}
+use Rattle.machine.specs.Line.{stepsOf}
+use Rattle.machine.specs.declared.Block.{Block}
+use Rattle.machine.specs.declared.Limits.{Limits}
+use Rattle.line.specs.Blocks.{mostHeld, Line, Call, add, take, freshLine, addRefusal, addAfter, takeAfter, linePlan, lineAnswer, lineAfter, lineAnswers, lineAfterAll}
+use Rattle.line.specs.Ring.{Place, Ring, freshRing, toldOf, shownIn, ringAnswer, ringAfter, ringAnswers, ringAfterAll}
+use Rattle.line.specs.Holds.{Holds, Demand3}
+use Rattle.line.proofs.Adds.{holds-add}
+use Rattle.line.proofs.Takes.{holds-take}
+use Rattle.line.proofs.Shows.{holds-told, holds-shown, holds-highest}
+
+-- A fresh ring holds the fresh line, whatever its places hold.
+pub holds-fresh : (l : Limits) (places : List Place) → limitsRefusal l ≡ 0 → length places ≡ mostHeld → Holds (freshRing l places) (freshLine l)
+unfolding stepsOf brake
+holds-fresh l places e s = record {
+  limited = e;
+  limits = refl;
+  committed = refl;
+  sized = s;
+  room = omega arith;
+  counted = refl;
+  passed = λ k h. absurd (omega arith);
+  placed = record { block = λ k h. absurd (omega arith); numbers = λ k h. absurd (omega arith); junction = λ k p h. absurd (omega arith) };
+  kept = λ i p q. absurd (omega arith);
+  brakes = omega arith;
+  entered = λ h. omega arith;
+}
+
+-- One call of either kind.
+pub holds-call : {r : Ring} {line : Line} (c : Call) → Holds r line → (ringAnswer r c ≡ lineAnswer line c) × Holds (ringAfter r c) (lineAfter line c)
+holds-call (add b) h = holds-add b h
+holds-call take h = holds-take h
+
+-- A list of calls is answered as the line says, and the ring holds the line after them.
+pub holds-calls : {r : Ring} {line : Line} (calls : List Call) → Holds r line
+    → (ringAnswers r calls ≡ lineAnswers line calls) × Holds (ringAfterAll r calls) (lineAfterAll line calls)
+unfolding ringAnswers lineAnswers ringAfterAll lineAfterAll
+holds-calls [] h = (refl, h)
+holds-calls (c ∷ calls) h =
+    let one = holds-call c h in
+    let more = holds-calls calls (one .1) in
+    ((λ i. one .0 i ∷ more .0 i), more .1)
+
+-- A call leaves the limits as they are,
+limits-call : (line : Line) (c : Call) → lineAfter line c .limits ≡ line .limits
+unfolding lineAfter
+limits-call line (add b) = go (addRefusal (length (line .blocks)) b)
+  where
+    go : (n : ℕ) → addAfter n line b .limits ≡ line .limits
+    go zero = refl
+    go (suc n) = refl
+limits-call line take = go (line .blocks) (linePlan line)
+  where
+    go : (blocks : List Block) (plan : List ℕ) → takeAfter (line .limits) (line .committed) blocks plan .limits ≡ line .limits
+    go [] plan = refl
+    go (b ∷ rest) plan = refl
+
+-- and so do all.
+pub limits-after : (line : Line) (calls : List Call) → lineAfterAll line calls .limits ≡ line .limits
+unfolding lineAfterAll
+limits-after line [] = refl
+limits-after line (c ∷ calls) = limits-after (lineAfter line c) calls ∙ limits-call line c
+
+-- Demand 3: each call is answered, the number told and the plan shown as the line that the calls make says, and that plan is
+-- the line's highest lawful profile.
+pub demand3 : (l : Limits) (places : List Place) → limitsRefusal l ≡ 0 → length places ≡ mostHeld → (calls : List Call)
+    → Demand3 l calls (ringAnswers (freshRing l places) calls) (toldOf (ringAfterAll (freshRing l places) calls)) (shownIn (ringAfterAll (freshRing l places) calls))
+demand3 l places e s calls =
+    let all = holds-calls calls (holds-fresh l places e s) in
+    record {
+      answered = all .0;
+      number = holds-told (all .1);
+      plan = holds-shown (all .1);
+      highest = rw (limits-after (freshLine l) calls) at (holds-highest (all .1));
+    }

@@ -1,0 +1,137 @@
+-- A take: a ring that holds a line answers as the line does and holds the rest afterwards. From profile's laws of the plan and
+-- those of steps and places. Assumes nothing.
+use mathlib.Core.Bool.{true, cond}
+use mathlib.Core.Path.{_≡_, refl, ap, _∙_}
+use mathlib.Core.List.{List, [], _∷_}
+use Prim.Native.Nat.{ℕ, zero, suc, _+_, _<_}
+use native.Mathlib.Numerals.{add-one}
+use native.Mathlib.Omega.{arith}
+use lib.ListN.{length, drop, getD}
+use Rattle.profile.specs.Line.{Step, capAt, reachAt, numberAt}
+use Rattle.profile.specs.Passes.{brake, exitFrom, planOf, Braked}
+use Rattle.profile.proofs.Plan.{plan-first, plan-exit, take-keeps}
+use Rattle.profile.proofs.Highest.{plan-lawful}
+use Rattle.profile.proofs.Kept.{braked-taken}
+use Rattle.machine.specs.Line.{stepsOf}
+use Rattle.machine.specs.Numbers.{numbersOf, rampOf, rampable, noRamp}
+use Rattle.machine.specs.declared.Block.{Block}
+use Rattle.machine.specs.declared.Limits.{Limits}
+use Rattle.machine.specs.declared.Numbers.{Numbers}
+use Rattle.machine.proofs.Known.{rampable-within}
+use Rattle.line.specs.declared.Given.{Given}
+use Rattle.line.specs.Answers.{gave, givenOf}
+use Rattle.line.specs.Blocks.{Line, take, takeAnswer, takeAfter, lineAnswer, lineAfter}
+use Rattle.line.specs.Ring.{Place, Ring, noPlace, placeAt, blockIn, numbersIn, givenIn, takenFrom, takenAnswer, takenIn, ringAnswer, ringAfter}
+use Rattle.line.specs.Holds.{keptAt, Placed, Holds}
+use Rattle.line.proofs.Steps.{steps-length, steps-reach, rest-cap, rest-brakes, rest-braked, rest-under, rest-entered}
+use Rattle.line.proofs.Places.{placed-reach}
+
+-- a block given out with a ramp where there is one
+abbrev rampedOf : Block → Numbers → (entry exit : ℕ) → Given
+rampedOf b n entry exit =
+    record {
+      block = b;
+      length = n .length;
+      accel = n .accel;
+      entry = entry;
+      exit = exit;
+      ramp = cond (rampable n entry exit) (rampOf n entry exit) noRamp;
+    }
+
+-- a line by its parts
+abbrev lineOf : Limits → (committed : ℕ) → List Block → Line
+lineOf l committed blocks = record { limits = l; committed = committed; blocks = blocks }
+
+-- a ring that holds a line with a first block
+module _ {r : Ring} {l : Limits} {committed : ℕ} {a : Block} {rest : List Block} (h : Holds r (lineOf l committed (a ∷ rest))) where
+  abbrev steps : List Step
+  steps = stepsOf l (a ∷ rest)
+
+  abbrev exit : ℕ
+  exit = numberAt (planOf committed steps) 1
+
+  -- there is a first step
+  some : 0 < length steps
+  some = omega (arith, steps-length l (a ∷ rest))
+
+  -- the exit by the backward pass after the block
+  exit-is : exit ≡ exitFrom committed (reachAt steps 0) (brake (drop 1 steps))
+  exit-is = plan-exit committed steps (h .brakes) some
+
+  -- what the ring has for the exit
+  exit-right : exitFrom (r .committed) (placeAt r 0 .reach) (placeAt r 0 .limit) ≡ exit
+  exit-right = omega (arith, h .committed, placed-reach (h .placed) 0 (omega arith), h .kept 1 (omega arith) some, exit-is)
+
+  -- the plan's first two numbers are within the block's cap and reach
+  ramped : rampable (numbersOf l a) committed exit ≡ true
+  ramped =
+      let lawful = plan-lawful committed steps (h .brakes) in
+      rampable-within l a (h .passed 0 (omega arith)) committed exit (h .entered (omega arith))
+      (omega (arith, exit-is, rest-under l a rest))
+      (omega (arith, lawful .falls 0 some, lawful .begins, steps-reach l (a ∷ rest) 0 (omega arith)))
+      (omega (arith, lawful .rises 0 some, lawful .begins, steps-reach l (a ∷ rest) 0 (omega arith)))
+
+  -- so the block is given out as the line says
+  given-right : givenIn r ≡ givenOf l a (numberAt (planOf committed steps) 0) exit
+  unfolding givenIn givenOf
+  given-right =
+      (λ i. rampedOf (h .placed .block 0 (omega arith) i) (h .placed .numbers 0 (omega arith) i) (h .committed i) (exit-right i))
+      ∙ rw (plan-first committed steps (h .brakes), ramped)
+
+  -- block k of the rest was block k + 1
+  shifted : (k : ℕ) → placeAt (takenFrom r) k ≡ placeAt r (suc k)
+  unfolding takenFrom
+  shifted k = ap (λ (s : ℕ). getD (r .places) s noPlace) (omega arith)
+
+  -- the places after the first are the blocks of the rest,
+  taken-placed : Placed (takenFrom r) l rest
+  taken-placed = record {
+    block = λ k g. ap blockIn (shifted k) ∙ h .placed .block (suc k) (omega arith);
+    numbers = λ k g. ap numbersIn (shifted k) ∙ h .placed .numbers (suc k) (omega arith);
+    junction = junction;
+  }
+    where
+      junction : (k : ℕ) → 0 < k → k < length rest → placeAt (takenFrom r) k .junction ≡ capAt (stepsOf l rest) k
+      junction zero p g = absurd (omega arith)
+      junction (suc k) p g =
+          ap (λ (p : Place). p .junction) (shifted (suc k)) ∙ h .placed .junction (suc (suc k)) (omega arith) (omega arith) ∙ rest-cap l a rest k
+
+  -- with the limits of the rest's backward pass,
+  taken-kept : Braked (stepsOf l rest) (keptAt (takenFrom r)) 1
+  taken-kept =
+      rest-braked l a (keptAt (takenFrom r)) rest
+      λ i p q. same i p ∙ braked-taken steps (keptAt r) 1 some (λ j s t. h .kept j (omega arith) t) i p q
+    where
+      same : (i : ℕ) → 0 < i → keptAt (takenFrom r) i ≡ keptAt r (i + 1)
+      same zero p = absurd (omega arith)
+      same (suc k) p = rw (add-one (suc k)) (ap (λ (p : Place). p .limit) (shifted k))
+
+  -- so the ring holds the rest
+  taken-holds : Holds (takenFrom r) (lineOf l exit rest)
+  unfolding takenFrom
+  taken-holds = record {
+    limited = h .limited;
+    limits = h .limits;
+    committed = exit-right;
+    sized = h .sized;
+    room = omega (arith, h .room);
+    counted = omega (arith, h .counted);
+    passed = λ k g. h .passed (suc k) (omega arith);
+    placed = taken-placed;
+    kept = taken-kept;
+    brakes = rest-brakes l a exit rest (take-keeps committed steps);
+    entered = λ g. omega (arith, exit-is, rest-entered l a rest);
+  }
+
+-- A take is answered as the line says, and the ring holds the line afterwards.
+pub holds-take : {r : Ring} {line : Line} → Holds r line
+    → (ringAnswer r take ≡ lineAnswer line take) × Holds (ringAfter r take) (lineAfter line take)
+unfolding ringAnswer lineAnswer ringAfter lineAfter
+holds-take {r} {line} = go (line .limits) (line .committed) (line .blocks) (r .count) refl
+  where
+    go : (l : Limits) (c : ℕ) (blocks : List Block) (count : ℕ) → r .count ≡ count → Holds r (lineOf l c blocks)
+        → (takenAnswer count r ≡ takeAnswer l blocks (planOf c (stepsOf l blocks))) × Holds (takenIn count r) (takeAfter l c blocks (planOf c (stepsOf l blocks)))
+    go l c [] zero e h = (refl, h)
+    go l c [] (suc n) e h = absurd (omega (arith, h .counted))
+    go l c (a ∷ rest) zero e h = absurd (omega (arith, h .counted))
+    go l c (a ∷ rest) (suc n) e h = (ap gave (given-right h), taken-holds h)

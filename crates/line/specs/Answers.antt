@@ -1,0 +1,44 @@
+-- What is answered, as document 01's numbers and values.
+use mathlib.Core.List.{List}
+use Prim.Native.Nat.{ℕ}
+use Rattle.machine.specs.Checks.{refusalNumber}
+use Rattle.machine.specs.Numbers.{numbersOf, rampOf}
+use Rattle.machine.specs.declared.Block.{Block}
+use Rattle.machine.specs.declared.Limits.{Limits}
+use Rattle.line.specs.declared.Given.{Given}
+use Rattle.line.specs.declared.AddAnswer.{AddAnswer}
+use Rattle.line.specs.declared.AddAnswer.the-variants as add
+use Rattle.line.specs.declared.TakeAnswer.{TakeAnswer}
+use Rattle.line.specs.declared.TakeAnswer.the-variants as take
+use Rattle.line.specs.declared.ShowAnswer.{ShowAnswer}
+use Rattle.line.specs.declared.ShowAnswer.the-variants as show
+
+-- an answer: accepted, a block given out, or the number on the display
+pub data Answer : Type 0 where
+  accepted : Answer
+  gave : Given → Answer
+  refused : ℕ → Answer
+
+abbrev pub addMeans : AddAnswer → Answer
+addMeans add.Added = accepted
+addMeans (add.Refused r) = refused (refusalNumber r)
+
+abbrev pub takeMeans : TakeAnswer → Answer
+takeMeans (take.Given g) = gave g
+takeMeans (take.Refused r) = refused (refusalNumber r)
+
+abbrev pub showMeans : ShowAnswer → Answer
+showMeans show.Shown = accepted
+showMeans (show.Refused r) = refused (refusalNumber r)
+
+-- a block given out with its entry and exit squared speeds; the rest is worked out from limits and block
+unfoldable pub givenOf : Limits → Block → (entry exit : ℕ) → Given
+givenOf l b entry exit =
+    record {
+      block = b;
+      length = numbersOf l b .length;
+      accel = numbersOf l b .accel;
+      entry = entry;
+      exit = exit;
+      ramp = rampOf (numbersOf l b) entry exit;
+    }

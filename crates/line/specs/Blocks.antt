@@ -1,0 +1,83 @@
+-- Document 01, "The line of blocks, from the calls alone". Nothing here names what a planner keeps.
+use mathlib.Core.List.{List, [], _∷_, _++_}
+use mathlib.Core.Bool.{Bool, true, false}
+use Prim.Native.Nat.{ℕ, zero, suc}
+use lib.Dec.{leb}
+use lib.ListN.{length}
+use Rattle.profile.specs.Line.{numberAt}
+use Rattle.profile.specs.Passes.{planOf}
+use Rattle.machine.specs.Checks.{blockRefusal, pick}
+use Rattle.machine.specs.Line.{stepsOf}
+use Rattle.machine.specs.declared.Block.{Block}
+use Rattle.machine.specs.declared.Limits.{Limits}
+use Rattle.line.specs.Answers.{Answer, accepted, gave, refused, givenOf}
+
+-- how many blocks are held at most
+abbrev pub mostHeld : ℕ
+mostHeld = 64
+
+-- the line: limits, committed squared speed, blocks
+pub record Line : Type 0 where
+  pub limits : Limits
+  pub committed : ℕ
+  pub blocks : List Block
+
+-- at a fresh planner
+abbrev pub freshLine : Limits → Line
+freshLine l = record { limits = l; committed = 0; blocks = [] }
+
+-- an add with its block, or a take
+pub data Call : Type 0 where
+  add : Block → Call
+  take : Call
+
+-- the first of two numbers that is not 0
+abbrev pub orElse : ℕ → ℕ → ℕ
+orElse zero m = m
+orElse (suc n) m = suc n
+
+-- an add is refused by the first of 2 to 6 that its block meets, else by 7 if the line has 64 blocks
+abbrev pub addRefusal : (held : ℕ) → Block → ℕ
+addRefusal held b = orElse (blockRefusal b) (pick (leb mostHeld held) 7 0)
+
+-- the plan of the line: its highest lawful profile
+abbrev pub linePlan : Line → List ℕ
+linePlan line = planOf (line .committed) (stepsOf (line .limits) (line .blocks))
+
+-- what an add that is refused by a number, or by none, answers and leaves
+abbrev pub addAnswer : ℕ → Answer
+addAnswer zero = accepted
+addAnswer (suc n) = refused (suc n)
+
+abbrev pub addAfter : ℕ → Line → Block → Line
+addAfter zero line b = record { limits = line .limits; committed = line .committed; blocks = line .blocks ++ b ∷ [] }
+addAfter (suc n) line b = line
+
+-- what a take of the blocks answers, with the plan's first two numbers as entry and exit
+abbrev pub takeAnswer : Limits → List Block → (plan : List ℕ) → Answer
+takeAnswer l [] plan = refused 8
+takeAnswer l (b ∷ rest) plan = gave (givenOf l b (numberAt plan 0) (numberAt plan 1))
+
+-- and what line it leaves: the first block is gone, and the exit is the committed squared speed
+abbrev pub takeAfter : Limits → (committed : ℕ) → List Block → (plan : List ℕ) → Line
+takeAfter l committed [] plan = record { limits = l; committed = committed; blocks = [] }
+takeAfter l committed (b ∷ rest) plan = record { limits = l; committed = numberAt plan 1; blocks = rest }
+
+-- what each call answers
+unfoldable pub lineAnswer : Line → Call → Answer
+lineAnswer line (add b) = addAnswer (addRefusal (length (line .blocks)) b)
+lineAnswer line take = takeAnswer (line .limits) (line .blocks) (linePlan line)
+
+-- the line after a call
+unfoldable pub lineAfter : Line → Call → Line
+lineAfter line (add b) = addAfter (addRefusal (length (line .blocks)) b) line b
+lineAfter line take = takeAfter (line .limits) (line .committed) (line .blocks) (linePlan line)
+
+-- after a list of calls: the answers and the line
+unfoldable pub lineAnswers : Line → List Call → List Answer
+lineAnswers line [] = []
+lineAnswers line (c ∷ calls) = lineAnswer line c ∷ lineAnswers (lineAfter line c) calls
+
+unfoldable pub lineAfterAll : Line → List Call → Line
+lineAfterAll line [] = line
+lineAfterAll line (c ∷ calls) = lineAfterAll (lineAfter line c) calls

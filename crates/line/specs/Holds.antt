@@ -1,0 +1,56 @@
+-- A ring that holds a line, and demand 3.
+use mathlib.Core.Path.{_≡_}
+use mathlib.Core.List.{List}
+use Prim.Native.Nat.{ℕ, zero, suc, _≤_, _<_}
+use lib.ListN.{length, getD}
+use Rattle.profile.specs.Line.{capAt, Highest}
+use Rattle.profile.specs.Passes.{CanBrake, Braked}
+use Rattle.machine.specs.Checks.{limitsRefusal, blockRefusal}
+use Rattle.machine.specs.Numbers.{numbersOf, blockCap}
+use Rattle.machine.specs.Line.{stepsOf}
+use Rattle.machine.specs.declared.Block.{Block}
+use Rattle.machine.specs.declared.Limits.{Limits}
+use Rattle.line.specs.Answers.{Answer}
+use Rattle.line.specs.Blocks.{mostHeld, Line, Call, freshLine, linePlan, lineAnswers, lineAfterAll}
+use Rattle.line.specs.Ring.{Ring, placeAt, blockIn, numbersIn}
+
+-- what is read past a line's end
+abbrev pub noBlock : Block
+noBlock = blockIn (Rattle.line.specs.Ring.noPlace)
+
+abbrev pub blockAt : List Block → ℕ → Block
+blockAt blocks k = getD blocks k noBlock
+
+-- the limits by junctions: that of a place is at the junction where its block ends
+abbrev pub keptAt : Ring → ℕ → ℕ
+keptAt r zero = 0
+keptAt r (suc k) = placeAt r k .limit
+
+-- the ring's places from the first on are the blocks with their numbers and junction caps
+pub record Placed (r : Ring) (l : Limits) (blocks : List Block) : Type 0 where
+  pub block : (k : ℕ) → k < length blocks → blockIn (placeAt r k) ≡ blockAt blocks k
+  pub numbers : (k : ℕ) → k < length blocks → numbersIn (placeAt r k) ≡ numbersOf l (blockAt blocks k)
+  pub junction : (k : ℕ) → 0 < k → k < length blocks → placeAt r k .junction ≡ capAt (stepsOf l blocks) k
+
+-- the ring holds the line: its places are the line's blocks, its limits those of the line's backward pass; the line can
+-- brake from the committed squared speed, which is within the first block's cap
+pub record Holds (r : Ring) (line : Line) : Type 0 where
+  pub limited : limitsRefusal (line .limits) ≡ 0
+  pub limits : r .limits ≡ line .limits
+  pub committed : r .committed ≡ line .committed
+  pub sized : length (r .places) ≡ mostHeld
+  pub room : length (line .blocks) ≤ mostHeld
+  pub counted : r .count ≡ length (line .blocks)
+  pub passed : (k : ℕ) → k < length (line .blocks) → blockRefusal (blockAt (line .blocks) k) ≡ 0
+  pub placed : Placed r (line .limits) (line .blocks)
+  pub kept : Braked (stepsOf (line .limits) (line .blocks)) (keptAt r) 1
+  pub brakes : CanBrake (line .committed) (stepsOf (line .limits) (line .blocks))
+  pub entered : 0 < length (line .blocks) → line .committed ≤ blockCap (line .limits) (blockAt (line .blocks) 0)
+
+-- Demand 3 of a list of calls from a fresh planner with limits l: every call is answered as the line says; the number
+-- told is the line's; the plan shown is the line's highest lawful profile, so a lawful one exists and none is above it
+pub record Demand3 (l : Limits) (calls : List Call) (answers : List Answer) (told : ℕ) (shown : List ℕ) : Type 0 where
+  pub answered : answers ≡ lineAnswers (freshLine l) calls
+  pub number : told ≡ length (lineAfterAll (freshLine l) calls .blocks)
+  pub plan : shown ≡ linePlan (lineAfterAll (freshLine l) calls)
+  pub highest : Highest (lineAfterAll (freshLine l) calls .committed) (stepsOf l (lineAfterAll (freshLine l) calls .blocks)) shown

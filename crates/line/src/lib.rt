@@ -1,0 +1,35 @@
+// What a planner answers, and (in specs/) document 01's line of blocks and the ring of places that holds one.
+use machine::Block;
+use machine::Ramp;
+use machine::Refusal;
+
+// A block given out.
+pub struct Given {
+    pub block: Block,
+    // µm
+    pub length: u64,
+    // µm/s²
+    pub accel: u64,
+    // squared speeds, (µm/s)²
+    pub entry: u64,
+    pub exit: u64,
+    pub ramp: Ramp,
+}
+
+// The answer of an add.
+pub enum AddAnswer {
+    Added,
+    Refused(Refusal),
+}
+
+// The answer of a take.
+pub enum TakeAnswer {
+    Given(Given),
+    Refused(Refusal),
+}
+
+// The answer of a request to show the plan.
+pub enum ShowAnswer {
+    Shown,
+    Refused(Refusal),
+}
