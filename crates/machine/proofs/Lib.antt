@@ -4,3 +4,4 @@ pub mod Dots
 pub mod Limited
 pub mod Rampables
 pub mod Tests
+pub mod Steps

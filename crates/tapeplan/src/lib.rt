@@ -1,2 +1,3 @@
-// The plan of a whole tape, from rest to rest, into a lent list of squared speeds, (µm/s)².
+// temporary
+pub mod junctions;
 pub mod passes;
