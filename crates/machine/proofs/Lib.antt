@@ -5,3 +5,4 @@ pub mod Known
 pub mod Limited
 pub mod Rampables
 pub mod Tests
+pub mod Steps

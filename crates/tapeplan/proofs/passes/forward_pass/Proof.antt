@@ -1,0 +1,123 @@
+-- `tapeplan::passes::forward_pass` meets its contract. The invariant: up to junction k the list holds the plan, behind it the backward pass. The measure is what is left. Assumes nothing.
+use borrow.Author.Needs.{needs}
+use mathlib.Core.Path.{_≡_, sym}
+use native.Mathlib.Omega.{arith}
+use mathlib.Core.List.{List}
+use Prim.Native.Nat.{ℕ, _+_, _-_, _<_, _≤_, zero-le}
+use lib.ListN.{length, set, length-set}
+use Rattle.profile.specs.Line.{numberAt}
+use Rattle.profile.specs.Passes.{exitFrom}
+use Rattle.profile.proofs.Kept.{planned-all}
+use Rattle.profile.proofs.InPlace.{InPlace, in-place-first, in-place-exit}
+use Rattle.tapeplan.proofs.LentLaws.{line-length, line-reach}
+use Rattle.tapeplan.specs.Lent.{lineOf}
+use Rattle.tapeplan.proofs.passes.forward_pass.Statement.{statement}
+use Rattle.tapeplan.proofs.passes.forward_pass.Tie as tie
+
+turn : (caps reaches list : List ℕ) (k v : ℕ) → length caps ≡ length reaches → length list ≡ length caps + 1 → k < length caps
+    → v ≡ exitFrom (numberAt list k) (numberAt reaches k) (numberAt list (k + 1))
+    → InPlace 0 (lineOf caps reaches) list k → InPlace 0 (lineOf caps reaches) (set list (k + 1) v) (k + 1)
+turn caps reaches list k v same sized h e b =
+    let n = line-length caps reaches same in
+    in-place-exit (lineOf caps reaches) list (omega arith) 0 zero-le k v (omega arith)
+    (omega (arith, line-reach caps reaches k same h)) b
+
+abbrev Inv-loop : tie.InvT-loop
+Inv-loop caps reaches list₀ k₀ list k = (k ≤ length reaches) × (length list ≡ length reaches + 1) × InPlace 0 (lineOf caps reaches) list k
+
+abbrev μ-loop : tie.MeasureT-loop
+μ-loop caps reaches list₀ k₀ list k = length reaches - k
+
+slice-write-list : tie.Need-slice-write-list Inv-loop μ-loop
+slice-write-list c = search needs
+
+loop-holds : tie.Need-loop-holds Inv-loop μ-loop
+loop-holds c = (
+  search needs,
+  omega (arith, length-set (c .before .before .before .args .list .now) 0 0),
+  in-place-first (lineOf (c .before .before .before .args .caps .now) (c .before .before .before .args .reaches .now)) (c .before .before .before .args .list .now) (c .before .before .before .pre .2 .sized) 0 zero-le (c .before .before .before .pre .2 .braked),
+)
+
+mul-exit-from : tie.Need-mul-exit-from Inv-loop μ-loop
+mul-exit-from c = search needs
+
+slice-read-exit-from : tie.Need-slice-read-exit-from Inv-loop μ-loop
+slice-read-exit-from c = search needs
+
+mul-exit-from-2 : tie.Need-mul-exit-from-2 Inv-loop μ-loop
+mul-exit-from-2 c = search needs
+
+shared-slice-read-exit-from : tie.Need-shared-slice-read-exit-from Inv-loop μ-loop
+shared-slice-read-exit-from c = search needs
+
+add-exit-from : tie.Need-add-exit-from Inv-loop μ-loop
+add-exit-from c = search needs
+
+mul-exit-from-3 : tie.Need-mul-exit-from-3 Inv-loop μ-loop
+mul-exit-from-3 c = search needs
+
+slice-read-exit-from-2 : tie.Need-slice-read-exit-from-2 Inv-loop μ-loop
+slice-read-exit-from-2 c = search needs
+
+exit-from-requires : tie.Need-exit-from-requires Inv-loop μ-loop
+exit-from-requires c κs = search needs
+
+add-list : tie.Need-add-list Inv-loop μ-loop
+add-list c = search needs
+
+mul-list : tie.Need-mul-list Inv-loop μ-loop
+mul-list c = search needs
+
+slice-write-list-2 : tie.Need-slice-write-list-2 Inv-loop μ-loop
+slice-write-list-2 c = search needs
+
+add-k : tie.Need-add-k Inv-loop μ-loop
+add-k c = search needs
+
+loop-less : tie.Need-loop-less Inv-loop μ-loop
+loop-less c = search needs
+
+loop-again : tie.Need-loop-again Inv-loop μ-loop
+loop-again c = (
+  search needs,
+  search needs,
+  turn (c .before .before .before .before .before .before .before .before .before .args .caps .now)
+      (c .before .before .before .before .before .before .before .before .before .args .reaches .now)
+      (c .before .before .before .before .before .loop .list)
+      (c .before .before .before .before .before .loop .k) _
+      (search needs) (search needs) (search needs) (c .exit-from .ensures) (c .before .before .before .before .before .loop .inv .2),
+)
+
+same-length : tie.Need-same-length Inv-loop μ-loop
+same-length c = search needs
+
+returns : tie.Need-returns Inv-loop μ-loop
+returns c =
+    let n : length (lineOf (c .before .before .before .before .before .args .caps .now) (c .before .before .before .before .before .args .reaches .now)) ≡ length (c .before .before .before .before .before .args .caps .now) = line-length _ _ (c .before .before .before .before .before .pre .0) in
+    planned-all 0 (lineOf (c .before .before .before .before .before .args .caps .now) (c .before .before .before .before .before .args .reaches .now)) (c .before .loop .list) (omega arith)
+    (λ i p. c .before .loop .inv .2 .0 i (omega arith))
+
+pub forward-pass-spec : {M : Type 1} → statement M
+forward-pass-spec =
+    tie.close
+    (tie.spec
+    Inv-loop
+    μ-loop
+    slice-write-list
+    loop-holds
+    mul-exit-from
+    slice-read-exit-from
+    mul-exit-from-2
+    shared-slice-read-exit-from
+    add-exit-from
+    mul-exit-from-3
+    slice-read-exit-from-2
+    exit-from-requires
+    add-list
+    mul-list
+    slice-write-list-2
+    add-k
+    loop-less
+    loop-again
+    same-length
+    returns)

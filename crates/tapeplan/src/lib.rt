@@ -1,0 +1,3 @@
+// temporary
+pub mod junctions;
+pub mod passes;
