@@ -23,7 +23,8 @@ use Rattle.machine.specs.declared.Limits.{Limits}
 use Rattle.line.specs.Blocks.{mostHeld, Line, add, addRefusal, addAnswer, addAfter, orElse, lineAnswer, lineAfter}
 use Rattle.line.specs.Ring.{Place, Ring, cutLimits, slot, placeAt, blockIn, numbersIn, placeOf, junctionAfter, newJunction, walkBack, putLast, addedIn, ringAnswer, ringAfter}
 use Rattle.line.specs.Holds.{noBlock, blockAt, keptAt, Placed, Holds}
-use Rattle.line.proofs.Steps.{steps-length, steps-first, steps-cap, steps-last}
+use Rattle.machine.proofs.Steps.{steps-length, steps-first, steps-cap}
+use Rattle.line.proofs.Steps.{steps-last}
 use Rattle.line.proofs.Places.{limits-kept, block-back, junction-back, placed-reach, place-same, place-other}
 use Rattle.line.proofs.Walk.{Walked, walk-walked, Fitting, walk-braked}
 
@@ -111,7 +112,7 @@ module _ {r : Ring} {line : Line} (b : Block) (h : Holds r line) (passed : block
           let before : suc c - 1 ≡ c = omega arith in
           let held : c < length (line .blocks) = omega arith in
           let last : blockAt longer (suc c) ≡ b = rw e (more-last (line .blocks) b) in
-          rw (ne-eqb (suc c) 0 (omega arith), before, cut, ← e, steps-cap (line .limits) longer c (omega (arith, more-length (line .blocks) b)), more-old (line .blocks) b c held, last)
+          rw (ne-eqb (suc c) 0 (omega arith), before, cut, ← e, steps-cap noBlock (line .limits) longer c (omega (arith, more-length (line .blocks) b)), more-old (line .blocks) b c held, last)
           (junction-back (line .limits) (placeAt r c) (blockAt (line .blocks) c) b (h .passed c held) (h .placed .block c held) (h .placed .numbers c held))
 
   stored-is : stored ≡ wanted

@@ -23,8 +23,8 @@ use Rattle.machine.proofs.Bounds.{moves-below}
 use Rattle.machine.proofs.Known.{limits-below, short}
 use Rattle.line.specs.Blocks.{mostHeld}
 use Rattle.line.specs.Ring.{Place, Ring, noPlace, cutLimits, slot, placeAt, withPlace, blockIn, numbersIn, placeOf, junctionAfter}
-use Rattle.line.specs.Holds.{Placed}
-use Rattle.line.proofs.Steps.{steps-reach}
+use Rattle.line.specs.Holds.{Placed, noBlock}
+use Rattle.machine.proofs.Steps.{steps-reach}
 
 -- limits that pass 1 are used as they are
 pub limits-kept : (l : Limits) → limitsRefusal l ≡ 0 → cutLimits l ≡ l
@@ -65,7 +65,7 @@ junction-back l p a b r e n =
 -- the reaches of the places are those of the steps
 pub placed-reach : {r : Ring} {l : Limits} {blocks : List Block} → Placed r l blocks → (k : ℕ) → k < length blocks → placeAt r k .reach ≡ reachAt (stepsOf l blocks) k
 unfolding numbersOf
-placed-reach {r} {l} {blocks} p k h = ap (λ (n : Numbers). n .reach) (p .numbers k h) ∙ sym (steps-reach l blocks k h)
+placed-reach {r} {l} {blocks} p k h = ap (λ (n : Numbers). n .reach) (p .numbers k h) ∙ sym (steps-reach noBlock l blocks k h)
 
 module _ (r : Ring) (sized : length (r .places) ≡ mostHeld) where
   -- what is stored at a place is read there,

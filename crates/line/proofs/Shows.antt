@@ -16,7 +16,7 @@ use Rattle.machine.specs.Line.{stepsOf}
 use Rattle.line.specs.Blocks.{Line, linePlan}
 use Rattle.line.specs.Ring.{Ring, placeAt, toldOf, speedsFrom, shownIn, showRefusal}
 use Rattle.line.specs.Holds.{Holds}
-use Rattle.line.proofs.Steps.{steps-length}
+use Rattle.machine.proofs.Steps.{steps-length}
 use Rattle.line.proofs.Places.{placed-reach}
 
 -- One number more than blocks is shown, whatever the ring holds.

@@ -1,12 +1,11 @@
--- The steps of a line by their index, when a block is put last and when the first is taken. From the definition `stepsOf`.
+-- The steps of a line when a block is put last and when the first is taken. From the definition `stepsOf`.
 -- Assumes nothing.
 use mathlib.Core.Path.{_≡_, refl, ap}
 use mathlib.Core.List.{List, [], _∷_, _++_}
-use Prim.Native.Nat.{ℕ, zero, suc, _≤_, _<_, zero-le}
-use native.Mathlib.Nat.{le-of-suc-le-suc, not-suc-le-zero}
+use Prim.Native.Nat.{ℕ, suc, _≤_, zero-le}
 use native.Mathlib.Omega.{arith}
 use lib.ListN.{length, drop}
-use Rattle.profile.specs.Line.{Step, stepAt, capAt, reachAt}
+use Rattle.profile.specs.Line.{Step, stepAt, capAt}
 use Rattle.profile.specs.Passes.{brake, CanBrake, Braked}
 use Rattle.profile.proofs.Plan.{startLimit-head}
 use Rattle.profile.proofs.Kept.{braked-head}
@@ -18,48 +17,7 @@ use Rattle.machine.proofs.Known.{junction-under}
 use Rattle.line.specs.Holds.{blockAt}
 
 module _ (l : Limits) where
-  -- the steps after a block: how many, their reaches and caps, and one more put last
-  after-length : (a : Block) (blocks : List Block) → length (stepsAfter l a blocks) ≡ length blocks
-  unfolding stepsAfter
-  after-length a [] = refl
-  after-length a (b ∷ blocks) = ap suc (after-length b blocks)
-
-  -- one step for each block
-  pub steps-length : (blocks : List Block) → length (stepsOf l blocks) ≡ length blocks
-  unfolding stepsOf
-  steps-length [] = refl
-  steps-length (b ∷ blocks) = ap suc (after-length b blocks)
-
-  after-reach : (a : Block) (blocks : List Block) (k : ℕ) → k < length blocks → reachAt (stepsAfter l a blocks) k ≡ reachOf l (blockAt blocks k)
-  unfolding stepsAfter
-  after-reach a [] k h = absurd (not-suc-le-zero h)
-  after-reach a (b ∷ blocks) zero h = refl
-  after-reach a (b ∷ blocks) (suc k) h = after-reach b blocks k (le-of-suc-le-suc h)
-
-  -- its reach
-  pub steps-reach : (blocks : List Block) (k : ℕ) → k < length blocks → reachAt (stepsOf l blocks) k ≡ reachOf l (blockAt blocks k)
-  unfolding stepsOf
-  steps-reach [] k h = absurd (not-suc-le-zero h)
-  steps-reach (b ∷ blocks) zero h = refl
-  steps-reach (b ∷ blocks) (suc k) h = after-reach b blocks k (le-of-suc-le-suc h)
-
-  after-cap : (a : Block) (blocks : List Block) (k : ℕ) → k < length blocks → capAt (stepsAfter l a blocks) k ≡ junctionCap l (blockAt (a ∷ blocks) k) (blockAt blocks k)
-  unfolding stepsAfter
-  after-cap a [] k h = absurd (not-suc-le-zero h)
-  after-cap a (b ∷ blocks) zero h = refl
-  after-cap a (b ∷ blocks) (suc k) h = after-cap b blocks k (le-of-suc-le-suc h)
-
-  -- its cap: none at junction 0, then the junction cap with the block before
-  pub steps-first : (blocks : List Block) → capAt (stepsOf l blocks) 0 ≡ 0
-  unfolding stepsOf
-  steps-first [] = refl
-  steps-first (b ∷ blocks) = refl
-
-  pub steps-cap : (blocks : List Block) (k : ℕ) → suc k < length blocks → capAt (stepsOf l blocks) (suc k) ≡ junctionCap l (blockAt blocks k) (blockAt blocks (suc k))
-  unfolding stepsOf
-  steps-cap [] k h = absurd (not-suc-le-zero h)
-  steps-cap (b ∷ blocks) k h = after-cap b blocks k (le-of-suc-le-suc h)
-
+  -- one more block put last after a block
   after-last : (a : Block) (blocks : List Block) (b : Block)
       → stepsAfter l a (blocks ++ b ∷ []) ≡ stepsAfter l a blocks ++ (stepAt (stepsAfter l a (blocks ++ b ∷ [])) (length blocks) ∷ [])
   unfolding stepsAfter

@@ -22,8 +22,9 @@ use Rattle.line.specs.declared.Given.{Given}
 use Rattle.line.specs.Answers.{gave, givenOf}
 use Rattle.line.specs.Blocks.{Line, take, takeAnswer, takeAfter, lineAnswer, lineAfter}
 use Rattle.line.specs.Ring.{Place, Ring, noPlace, placeAt, blockIn, numbersIn, givenIn, takenFrom, takenAnswer, takenIn, ringAnswer, ringAfter}
-use Rattle.line.specs.Holds.{keptAt, Placed, Holds}
-use Rattle.line.proofs.Steps.{steps-length, steps-reach, rest-cap, rest-brakes, rest-braked, rest-under, rest-entered}
+use Rattle.line.specs.Holds.{keptAt, Placed, Holds, noBlock}
+use Rattle.machine.proofs.Steps.{steps-length, steps-reach}
+use Rattle.line.proofs.Steps.{rest-cap, rest-brakes, rest-braked, rest-under, rest-entered}
 use Rattle.line.proofs.Places.{placed-reach}
 
 -- a block given out with a ramp where there is one
@@ -68,8 +69,8 @@ module _ {r : Ring} {l : Limits} {committed : ℕ} {a : Block} {rest : List Bloc
       let lawful = plan-lawful committed steps (h .brakes) in
       rampable-within l a (h .passed 0 (omega arith)) committed exit (h .entered (omega arith))
       (omega (arith, exit-is, rest-under l a rest))
-      (omega (arith, lawful .falls 0 some, lawful .begins, steps-reach l (a ∷ rest) 0 (omega arith)))
-      (omega (arith, lawful .rises 0 some, lawful .begins, steps-reach l (a ∷ rest) 0 (omega arith)))
+      (omega (arith, lawful .falls 0 some, lawful .begins, steps-reach noBlock l (a ∷ rest) 0 (omega arith)))
+      (omega (arith, lawful .rises 0 some, lawful .begins, steps-reach noBlock l (a ∷ rest) 0 (omega arith)))
 
   -- so the block is given out as the line says
   given-right : givenIn r ≡ givenOf l a (numberAt (planOf committed steps) 0) exit

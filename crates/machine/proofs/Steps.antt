@@ -1,9 +1,8 @@
 -- The steps of a line of blocks, block by block. From their definition. Assumes nothing.
-use mathlib.Core.Path.{_≡_, refl, ap, sym, _∙_}
+use mathlib.Core.Path.{_≡_, refl, ap}
 use mathlib.Core.List.{List, [], _∷_}
-use Prim.Native.Nat.{ℕ, zero, suc, _+_, _<_}
+use Prim.Native.Nat.{ℕ, zero, suc, _<_}
 use native.Mathlib.Nat.{not-suc-le-zero, le-of-suc-le-suc}
-use native.Mathlib.Numerals.{add-one}
 use lib.ListN.{length, getD}
 use Rattle.profile.specs.Line.{capAt, reachAt}
 use Rattle.machine.specs.Numbers.{junctionCap, reachOf}
@@ -44,13 +43,10 @@ module _ (none : Block) (l : Limits) where
   steps-reach (b ∷ bs) (suc k) h = after-reach b bs k (le-of-suc-le-suc h)
 
   -- the cap between block k and the next
-  pub steps-cap : (bs : List Block) (k : ℕ) → k + 1 < length bs → capAt (stepsOf l bs) (k + 1) ≡ junctionCap l (getD bs k none) (getD bs (k + 1) none)
+  pub steps-cap : (bs : List Block) (k : ℕ) → suc k < length bs → capAt (stepsOf l bs) (suc k) ≡ junctionCap l (getD bs k none) (getD bs (suc k) none)
   unfolding stepsOf
-  steps-cap bs k h = rw add-one (by-suc bs k (rw add-one at h))
-    where
-      by-suc : (bs : List Block) (k : ℕ) → suc k < length bs → capAt (stepsOf l bs) (suc k) ≡ junctionCap l (getD bs k none) (getD bs (suc k) none)
-      by-suc [] k h = absurd (not-suc-le-zero h)
-      by-suc (b ∷ bs) k h = after-cap b bs k (le-of-suc-le-suc h)
+  steps-cap [] k h = absurd (not-suc-le-zero h)
+  steps-cap (b ∷ bs) k h = after-cap b bs k (le-of-suc-le-suc h)
 
 -- the first step's cap, which is never read
 pub steps-first : (l : Limits) (bs : List Block) → capAt (stepsOf l bs) 0 ≡ 0
