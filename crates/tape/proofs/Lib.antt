@@ -1,0 +1,7 @@
+-- The laws of the tape.
+pub mod Answers
+pub mod Checks
+pub mod Fits
+pub mod Words
+pub mod Trips
+pub mod Faults
