@@ -13,7 +13,7 @@ use Rattle.machine.specs.declared.Refusal.the-variants as why
 use Rattle.machine.specs.declared.Checked.{Checked}
 use Rattle.machine.specs.declared.Checked.the-variants.{Passed}
 use Rattle.tape.specs.Tape.{recordsIn}
-use Rattle.tape.specs.Display.{byNumber, _then_, raggedBelow, Answer, given, refused, Wrote, Fault, _at_, byFault}
+use Rattle.tape.specs.Display.{byNumber, _then_, raggedBelow, given, refused, Wrote, Fault, _at_, byFault}
 
 -- Every refusal has a number above 0.
 pub refusal-above : (r : Refusal) → 0 < refusalNumber r

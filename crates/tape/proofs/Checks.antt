@@ -7,12 +7,20 @@ use mathlib.Core.List.{List}
 use borrow.Author.Tests.{lt-ltb, le-ltb, ltb-false, eq-eqb, ne-eqb, eqb-true, not-false}
 use lib.Dec.{lit<, ltb, eqb}
 use lib.ListN.{length}
-use Rattle.machine.specs.Checks.{limitsRefusal, blockRefusal}
+use Rattle.machine.specs.Checks.{pick, limitsRefusal, blockRefusal}
 use Rattle.machine.specs.declared.Limits.{Limits}
 use Rattle.machine.specs.declared.Block.{Block}
-use Rattle.tape.specs.Tape.{limitsBytes, limitsAt, zeroBits, recordBytes, blockAt, recordsIn}
-use Rattle.tape.specs.Display.{given, refused, byNumber, _then_, raggedBelow, limitsFault, limitsReadRefusal, readLimits, recordReadRefusal, limitsWriteRefusal, recordWriteRefusal, mostBytes, manyIn, raggedIn, headRefusal, readHead}
-use Rattle.tape.proofs.Answers.{then-first, then-second, then-zero, enough, too-few, not-picked}
+use Rattle.tape.specs.Tape.{limitsBytes, limitsAt, zeroBits, recordBytes, blockAt, recordStart, recordsIn}
+use Rattle.tape.specs.Display.{raggedBelow, given, refused, limitsFault, limitsReadRefusal, recordReadRefusal, limitsWriteRefusal, recordWriteRefusal, mostBytes, manyIn, raggedIn, headRefusal, readHead}
+use Rattle.tape.proofs.Answers.{then-first, then-second, then-zero, enough, not-picked, given-is, refused-is}
+
+-- A number that must be 0, before another: neither is refused.
+pub no-fault : (z r : ℕ) → pick (eqb z 0) r 1 ≡ 0 → (z ≡ 0) × (r ≡ 0)
+no-fault z r e = told (eqb z 0) refl e
+  where
+    told : (t : Bool) → eqb z 0 ≡ t → pick t r 1 ≡ 0 → (z ≡ 0) × (r ≡ 0)
+    told true p q = (eqb-true z 0 p, q)
+    told false p q = absurd (omega arith)
 
 -- Reading a record.
 pub record-short : (s : List ℕ) → length s < recordBytes → recordReadRefusal s ≡ 9
@@ -39,6 +47,10 @@ limits-bits s h = rw (ne-eqb (zeroBits s) 0 h)
 pub limits-zeros : (s : List ℕ) → zeroBits s ≡ 0 → limitsFault s ≡ limitsRefusal (limitsAt s)
 unfolding limitsFault
 limits-zeros s e = rw (eq-eqb (zeroBits s) 0 e)
+
+pub limits-faultless : (s : List ℕ) → limitsFault s ≡ 0 → (zeroBits s ≡ 0) × (limitsRefusal (limitsAt s) ≡ 0)
+unfolding limitsFault
+limits-faultless s e = no-fault (zeroBits s) (limitsRefusal (limitsAt s)) e
 
 -- Writing, where a refusal of the fields comes first.
 module _ (b : Block) (s : List ℕ) where
@@ -100,3 +112,23 @@ module _ (s : List ℕ) where
       neither : (a b : Bool) → a || b ≡ false → (a ≡ false) × (b ≡ false)
       neither true b e = let z : _≡_ {A = ℕ} 0 1 = cc in absurd (omega arith)
       neither false b e = (refl, e)
+
+  -- Such a tape is its limits and its records to the end, at most 2,048.
+  pub head-length : Head → length s ≡ recordStart (recordsIn s)
+  head-length h = omega (arith, h .least, h .whole)
+
+  pub head-records : Head → recordsIn s ≤ 2048
+  head-records h = omega (arith, h .most)
+
+  -- What reading the head gives, or refuses.
+  pub head-given : {l : Limits} → readHead s ≡ given l → (headRefusal s ≡ 0) × ((limitsAt s ≡ l) × (limitsRefusal l ≡ 0))
+  unfolding readHead
+  head-given e =
+      let r = given-is (limitsAt s) (headRefusal s) (headRefusal s) (sym e) in
+      (r .0, (sym (r .1), ap limitsRefusal (r .1) ∙ limits-faultless s (head-passed (r .0) .limits) .1))
+
+  pub head-refused : {n : ℕ} → readHead s ≡ refused n → (0 < n) × (headRefusal s ≡ n)
+  unfolding readHead
+  head-refused e =
+      let r = refused-is (limitsAt s) (headRefusal s) (headRefusal s) (sym e) in
+      (rw (← r .1) at (r .0), sym (r .1))

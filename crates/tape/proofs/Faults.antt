@@ -1,14 +1,13 @@
 -- A whole tape: its records by their place, and its first fault. From the definitions. Assumes nothing.
-use mathlib.Core.Path.{_≡_, refl, sym, ap, _∙_}
+use mathlib.Core.Path.{_≡_, refl, sym, ap, subst, _∙_}
 use Prim.Native.Nat.{ℕ, zero, suc, _+_, _-_, _≤_, _<_}
 use native.Mathlib.Nat.{add-zero, zero-add, le-of-eq}
 use native.Mathlib.Numerals.{add-one}
 use native.Mathlib.Omega.{arith}
-use mathlib.Core.List.{List, [], _∷_}
+use mathlib.Core.List.{List, _∷_}
 use lib.ListN.{length, take, drop, length-drop, drop-of-length-le}
 use lib.Seq.{take-all}
 use Rattle.machine.specs.Checks.{blockRefusal}
-use Rattle.machine.specs.declared.Block.{Block}
 use Rattle.tape.specs.Tape.{blockAt, recordStart, recordAt, recordsIn, blocksFrom, tapeBlocks}
 use Rattle.tape.specs.Display.{Fault, _at_, _else_, faultFrom, headRefusal, tapeFault, tapeRefusal}
 use Rattle.tape.proofs.Answers.{at-zero, above-zero}
@@ -25,6 +24,21 @@ drop-from s j {k = zero} {n = suc n} h = rw (add-zero j)
 drop-from s j {k = suc k} {n = suc n} h =
     let e : suc j + k ≡ j + suc k = omega arith in
     drop-from s (suc j) {k = k} {n = n} (omega arith) ∙ ap (λ (i : ℕ). recordAt s i ∷ drop (suc k) (blocksFrom s (suc j) n)) e
+
+-- Two faults of which neither has a number.
+neither : (n p : ℕ) (f : Fault) → (n at p else f) .number ≡ 0 → (n ≡ 0) × (f .number ≡ 0)
+neither zero p f e = (refl, e)
+neither (suc n) p f e = absurd (omega arith)
+
+-- No record of these blocks is at fault.
+each : (s : List ℕ) (j n p : ℕ) → faultFrom p (blocksFrom s j n) .number ≡ 0 → (k : ℕ) → k < n → blockRefusal (recordAt s (j + k)) ≡ 0
+unfolding blocksFrom faultFrom
+each s j zero p e k h = absurd (omega arith)
+each s j (suc n) p e zero h = rw (add-zero j) (neither (blockRefusal (recordAt s j)) p (faultFrom (suc p) (blocksFrom s (suc j) n)) e .0)
+each s j (suc n) p e (suc k) h =
+    let i : suc j + k ≡ j + suc k = omega arith in
+    let rest = neither (blockRefusal (recordAt s j)) p (faultFrom (suc p) (blocksFrom s (suc j) n)) e .1 in
+    rw i at (each s (suc j) n (suc p) rest k (omega arith))
 
 module _ (s : List ℕ) where
   -- As many blocks as records.
@@ -77,3 +91,24 @@ module _ (s : List ℕ) where
   pub fault-head : 0 < headRefusal s → tapeFault s ≡ headRefusal s at 0
   unfolding tapeFault
   fault-head h = above-zero (faultFrom 1 (tapeBlocks s)) (headRefusal s at 0) h
+
+  -- By the records themselves: all before k pass, k is at fault, or all pass.
+  passed-to : (k : ℕ) → k ≤ recordsIn s → ((j : ℕ) → j < k → blockRefusal (recordAt s j) ≡ 0) → Passed k
+  passed-to zero h all = passed-none
+  passed-to (suc k) h all =
+      subst (λ (j : ℕ). Passed j) (add-one k)
+      (passed-next {k = k} (passed-to k (omega arith) (λ j l. all j (omega arith))) (omega arith) (all k (omega arith)))
+
+  pub tape-faulty : {k : ℕ} → headRefusal s ≡ 0 → k < recordsIn s → ((j : ℕ) → j < k → blockRefusal (recordAt s j) ≡ 0)
+      → 0 < blockRefusal (recordAt s k) → tapeFault s ≡ blockRefusal (recordAt s k) at (k + 1)
+  tape-faulty {k} e h all l = fault-records e ∙ fault-at (passed-to k (omega arith) all) h l
+
+  pub tape-faultless : headRefusal s ≡ 0 → ((j : ℕ) → j < recordsIn s → blockRefusal (recordAt s j) ≡ 0) → tapeFault s ≡ 0 at 0
+  tape-faultless e all = fault-records e ∙ fault-none (passed-to (recordsIn s) (omega arith) all) (omega arith)
+
+  -- A tape with no fault has no fault in its head and none in any record.
+  pub tape-passed : tapeRefusal s ≡ 0 → (headRefusal s ≡ 0) × ((k : ℕ) → k < recordsIn s → blockRefusal (recordAt s k) ≡ 0)
+  unfolding tapeFault tapeBlocks
+  tape-passed e =
+      let h = neither (headRefusal s) 0 (faultFrom 1 (tapeBlocks s)) e in
+      (h .0, λ k l. rw zero-add at (each s 0 (recordsIn s) 1 (h .1) k l))

@@ -1,16 +1,14 @@
 -- Limits and blocks that pass their checks fit their fields. From the ranges that the checks allow. Assumes nothing.
-use mathlib.Core.Path.{_≡_, refl, sym, ap, _∙_}
+use mathlib.Core.Path.{_≡_, refl}
 use mathlib.Core.Bool.{Bool, true, false, _&&_}
 use Prim.Native.Nat.{ℕ, _^_, _≤_, _<_}
 use native.Mathlib.Omega.{arith}
 use borrow.Author.Tests.{leb-true}
 use lib.Dec.{leb}
-use lib.IntN.{ℤ, natAbs}
 use lib.Signed.{mag}
 use Rattle.fields.specs.Layouts.{InWidths}
-use Rattle.fields.specs.Signed.{bitsOf}
 use Rattle.fields.proofs.Signed.{bits-lt, mag-natAbs}
-use Rattle.machine.specs.Checks.{pick, within, axesWithin, limitsWithin, limitsRefusal, blockRefusal, movesOf}
+use Rattle.machine.specs.Checks.{pick, within, axesWithin, limitsWithin, limitsRefusal, blockRefusal}
 use Rattle.machine.specs.Ranges.{mostAccel, mostSpeed, mostJump, mostChord, leastTick, mostTick}
 use Rattle.machine.proofs.Bounds.{in-range, moves-below}
 use Rattle.machine.specs.declared.Axes.{Axes}

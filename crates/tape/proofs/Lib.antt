@@ -3,5 +3,6 @@ pub mod Answers
 pub mod Checks
 pub mod Fits
 pub mod Words
+pub mod Stored
 pub mod Trips
 pub mod Faults

@@ -5,10 +5,10 @@ use native.Mathlib.Omega.{arith}
 use mathlib.Core.List.{List, [], _∷_}
 use lib.ListN.{length, take, drop, getD}
 use lib.Pow.{shr-lt}
-use Rattle.fields.specs.Layouts.{total, joined, split}
+use Rattle.fields.specs.Layouts.{total, joined}
 use Rattle.fields.specs.Bytes.{Bytes, numberOf}
 use Rattle.fields.specs.Fields.{fieldOf, partOf}
-use Rattle.fields.specs.Signed.{signedOf, bitsOf}
+use Rattle.fields.specs.Signed.{signedOf}
 use Rattle.fields.proofs.Parts.{part-upper, part-lower, part-across}
 use Rattle.fields.proofs.Layouts.{joined-cut, split-at}
 use Rattle.fields.proofs.Bytes.{number-add}
@@ -16,7 +16,7 @@ use Rattle.fields.proofs.Fields.{split-part}
 use Rattle.fields.proofs.Signed.{signed-mod}
 use Rattle.machine.specs.declared.Limits.{Limits}
 use Rattle.machine.specs.declared.Block.{Block}
-use Rattle.tape.specs.Tape.{limitsLayout, limitsFields, limitsNumber, limitsValues, limitsAt, zeroBits, moveBits, recordLayout, blockFields, blockNumber, recordValues, blockAt}
+use Rattle.tape.specs.Tape.{limitsLayout, limitsNumber, limitsValues, limitsAt, zeroBits, moveBits, recordLayout, recordValues, blockAt}
 
 -- The feed of two words fits a word.
 pub feed-fits : (high low : ℕ) → low < 2 ^ 64 → high % 2 * 524288 + low / 35184372088832 < 2 ^ 64
@@ -102,13 +102,14 @@ pub words-of-limits : (l : Limits) {first second third : ℕ}
 unfolding limitsNumber joined
 words-of-limits l {first} {second} {third} e f g =
     sym (
-      joined-cut (25 ∷ 25 ∷ 25 ∷ 20 ∷ 20 ∷ []) (20 ∷ 10 ∷ 14 ∷ 13 ∷ [])
-        (l .accel .x ∷ l .accel .y ∷ l .accel .z ∷ l .speed .x ∷ l .speed .y ∷ []) (l .jump ∷ l .chord ∷ l .tick ∷ 0 ∷ []) 13 7 (l .speed .z) refl
-      ∙ (λ i. (upper i) * 2 ^ 64 + lower i)
+    joined-cut (25 ∷ 25 ∷ 25 ∷ 20 ∷ 20 ∷ []) (20 ∷ 10 ∷ 14 ∷ 13 ∷ [])
+    (l .accel .x ∷ l .accel .y ∷ l .accel .z ∷ l .speed .x ∷ l .speed .y ∷ []) (l .jump ∷ l .chord ∷ l .tick ∷ 0 ∷ []) 13 7 (l .speed .z) refl
+    ∙ (λ i. (upper i) * 2 ^ 64 + lower i)
     )
   where
     lower : joined (7 ∷ 20 ∷ 10 ∷ 14 ∷ 13 ∷ []) (l .speed .z % 2 ^ 7 ∷ l .jump ∷ l .chord ∷ l .tick ∷ 0 ∷ []) ≡ third
     lower = omega arith
+
     upper : joined (25 ∷ 25 ∷ 25 ∷ 20 ∷ 20 ∷ 13 ∷ []) (l .accel .x ∷ l .accel .y ∷ l .accel .z ∷ l .speed .x ∷ l .speed .y ∷ l .speed .z / 2 ^ 7 ∷ [])
         ≡ first * 2 ^ 64 + second
     upper =

@@ -25,7 +25,6 @@ byNumber (suc n) a b = b
 
 -- "where several hold, it is the first": the first of two numbers that is not 0
 infixr 5 _then_
-
 abbrev pub _then_ : ℕ → ℕ → ℕ
 a then b = byNumber a b a
 
@@ -91,13 +90,11 @@ pub record Fault : Type 0 where
   pub place : ℕ
 
 infixl 6 _at_
-
 abbrev pub _at_ : ℕ → ℕ → Fault
 n at p = record { number = n; place = p }
 
 -- the first of two faults that has a number
 infixr 5 _else_
-
 abbrev pub _else_ : Fault → Fault → Fault
 f else g = byNumber (f .number) g f
 

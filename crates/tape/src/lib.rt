@@ -10,6 +10,7 @@ use machine::Refusal;
 
 // Bytes of the limits, and of each record behind them.
 pub const LIMITS_BYTES: usize = 24;
+
 pub const RECORD_BYTES: usize = 16;
 // Greatest length of a tape in bytes: its limits and 2,048 records.
 pub const MOST_BYTES: usize = 32_792;

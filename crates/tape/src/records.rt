@@ -19,10 +19,15 @@ const MOVE: usize = 21;
 // first word, which ends with the highest bit of the feed, over 19 others; in the second they have 45 below them, and the
 // radius 21.
 const BELOW_X: u64 = 8_796_093_022_208;
+
 const BELOW_Y: u64 = 4_194_304;
+
 const BELOW_Z: u64 = 2;
+
 const BELOW_TOP: u64 = 524_288;
+
 const BELOW_FEED: u64 = 35_184_372_088_832;
+
 const BELOW_RADIUS: u64 = 2_097_152;
 // 2 to the 24 bits of a radius.
 const RADIUS_SIZE: u64 = 16_777_216;

@@ -4,9 +4,6 @@ use Rattle.tape.proofs.Words.{limits-of-fields}
 use borrow.Author.Needs.{needs}
 use Rattle.tape.proofs.limits.decode_limits.Statement.{statement}
 use Rattle.tape.proofs.limits.decode_limits.Tie as tie
-use Rattle.tape.proofs.limits.decode_limits.Reads as reads
-use Rattle.tape.proofs.limits.decode_limits.Lts as lts
-use Rattle.fields.proofs.read_field.Reads as read-field-reads
 
 read-field-requires : tie.Need-read-field-requires
 read-field-requires c κs = search needs

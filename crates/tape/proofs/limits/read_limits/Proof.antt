@@ -10,11 +10,6 @@ use Rattle.tape.proofs.Words.{zeros-of-field}
 use borrow.Author.Needs.{needs}
 use Rattle.tape.proofs.limits.read_limits.Statement.{statement}
 use Rattle.tape.proofs.limits.read_limits.Tie as tie
-use Rattle.tape.proofs.limits.read_limits.Reads as reads
-use Rattle.tape.proofs.limits.read_limits.Lts as lts
-use Rattle.fields.proofs.read_field.Reads as read-field-reads
-use Rattle.machine.proofs.check.check_limits.Reads as check-limits-reads
-use Rattle.tape.proofs.limits.decode_limits.Reads as decode-limits-reads
 
 -- the zero bits, once they are read
 bits : (c : tie.After-read-field) → c .read-field .result ≡ zeroBits (c .before .before .before .args .s .now)

@@ -1,5 +1,5 @@
 -- `tape::limits::store_limits` meets its contract: the three words are the limits' number, from `words-of-limits`. Assumes nothing.
-use mathlib.Core.Path.{_≡_, ap, _∙_}
+use mathlib.Core.Path.{ap, _∙_}
 use native.Mathlib.Omega.{arith}
 use Rattle.fields.specs.Bytes.{withBytes}
 use Rattle.fields.proofs.Bytes.{with-next}
@@ -7,12 +7,6 @@ use Rattle.tape.proofs.Words.{words-of-limits}
 use borrow.Author.Needs.{needs}
 use Rattle.tape.proofs.limits.store_limits.Statement.{statement}
 use Rattle.tape.proofs.limits.store_limits.Tie as tie
-use Rattle.tape.proofs.limits.store_limits.Reads as reads
-use Rattle.tape.proofs.limits.store_limits.Lts as lts
-use Rattle.fields.proofs.write_word.Reads as write-word-reads
-use Rattle.tape.proofs.limits.first_word.Reads as first-word-reads
-use Rattle.tape.proofs.limits.second_word.Reads as second-word-reads
-use Rattle.tape.proofs.limits.third_word.Reads as third-word-reads
 
 first-word-requires : tie.Need-first-word-requires
 first-word-requires c κs = search needs
@@ -45,10 +39,10 @@ returns c =
     let first = second .before in
     let a = first .before .before .before .before in
     with-next _ 0 16 8 _ _
-        (with-next _ 0 8 8 _ _ (u .write-word .ensures) (v .write-word2 .ensures) (omega (arith, a .pre .0)) (second .second-word .ensures .small))
-        (w .write-word3 .ensures) (omega (arith, a .pre .0)) (third .third-word .ensures .small)
+    (with-next _ 0 8 8 _ _ (u .write-word .ensures) (v .write-word2 .ensures) (omega (arith, a .pre .0)) (second .second-word .ensures .small))
+    (w .write-word3 .ensures) (omega (arith, a .pre .0)) (third .third-word .ensures .small)
     ∙ ap (withBytes (a .args .out .now) 0 24)
-        (words-of-limits (a .args .l) (first .first-word .ensures .is) (second .second-word .ensures .is) (third .third-word .ensures .is))
+    (words-of-limits (a .args .l) (first .first-word .ensures .is) (second .second-word .ensures .is) (third .third-word .ensures .is))
 
 pub store-limits-spec : {M : Type 1} → statement M
 store-limits-spec =

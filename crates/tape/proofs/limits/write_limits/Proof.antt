@@ -12,10 +12,6 @@ use Rattle.tape.proofs.Fits.{limits-fit}
 use borrow.Author.Needs.{needs}
 use Rattle.tape.proofs.limits.write_limits.Statement.{statement}
 use Rattle.tape.proofs.limits.write_limits.Tie as tie
-use Rattle.tape.proofs.limits.write_limits.Reads as reads
-use Rattle.tape.proofs.limits.write_limits.Lts as lts
-use Rattle.machine.proofs.check.check_limits.Reads as check-limits-reads
-use Rattle.tape.proofs.limits.store_limits.Reads as store-limits-reads
 
 check-limits-requires : tie.Need-check-limits-requires
 check-limits-requires c κs = search needs

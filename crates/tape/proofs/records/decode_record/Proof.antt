@@ -1,5 +1,5 @@
 -- `tape::records::decode_record` meets its contract, from `block-of-words`. Assumes nothing.
-use mathlib.Core.Path.{_≡_, _∙_}
+use mathlib.Core.Path.{_∙_}
 use Prim.Native.Nat.{_+_, _*_, _/_, _%_}
 use mir.Syntax.{w64}
 use mir.Facts.{toZ-ofZ}
@@ -7,10 +7,6 @@ use Rattle.tape.proofs.Words.{feed-fits, block-of-words}
 use borrow.Author.Needs.{needs}
 use Rattle.tape.proofs.records.decode_record.Statement.{statement}
 use Rattle.tape.proofs.records.decode_record.Tie as tie
-use Rattle.tape.proofs.records.decode_record.Reads as reads
-use Rattle.tape.proofs.records.decode_record.Lts as lts
-use Rattle.fields.proofs.read_word.Reads as read-word-reads
-use Rattle.fields.proofs.to_signed.Reads as to-signed-reads
 
 read-word-requires : tie.Need-read-word-requires
 read-word-requires c κs = search needs

@@ -8,10 +8,6 @@ use Rattle.tape.proofs.Checks.{record-short, record-long}
 use borrow.Author.Needs.{needs}
 use Rattle.tape.proofs.records.read_record.Statement.{statement}
 use Rattle.tape.proofs.records.read_record.Tie as tie
-use Rattle.tape.proofs.records.read_record.Reads as reads
-use Rattle.tape.proofs.records.read_record.Lts as lts
-use Rattle.machine.proofs.check.check_block.Reads as check-block-reads
-use Rattle.tape.proofs.records.decode_record.Reads as decode-record-reads
 
 -- the number, once the block is checked
 number : (c : tie.After-check-block) → recordReadRefusal (c .before .before .before .before .args .s .now) ≡ checkedNumber (c .check-block .result)

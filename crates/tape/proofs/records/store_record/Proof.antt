@@ -1,5 +1,5 @@
 -- `tape::records::store_record` meets its contract: the two words are the block's number, from `words-of-block`. Assumes nothing.
-use mathlib.Core.Path.{_≡_, ap, _∙_}
+use mathlib.Core.Path.{ap, _∙_}
 use mathlib.Core.List.{[], _∷_}
 use native.Mathlib.Omega.{arith}
 use mir.Syntax.{w64}
@@ -13,10 +13,6 @@ use Rattle.tape.proofs.Words.{words-of-block}
 use borrow.Author.Needs.{needs}
 use Rattle.tape.proofs.records.store_record.Statement.{statement}
 use Rattle.tape.proofs.records.store_record.Tie as tie
-use Rattle.tape.proofs.records.store_record.Reads as reads
-use Rattle.tape.proofs.records.store_record.Lts as lts
-use Rattle.fields.proofs.to_bits.Reads as to-bits-reads
-use Rattle.fields.proofs.write_word.Reads as write-word-reads
 
 to-bits-requires : tie.Need-to-bits-requires
 to-bits-requires c κs = search needs
@@ -77,14 +73,14 @@ returns c =
     let a = x .before .before .before in
     let b = a .args .b in
     with-next _ 0 8 8 _ _ (v .write-word .ensures) (w .write-word2 .ensures) (omega (arith, a .pre .0))
-        (omega (arith, a .pre .1 .1 .1 .1 .1 .0, a .pre .1 .1 .1 .1 .1 .1 .0))
+    (omega (arith, a .pre .1 .1 .1 .1 .1 .0, a .pre .1 .1 .1 .1 .1 .1 .0))
     ∙ ap (withBytes (a .args .out .now) 0 16)
-        (words-of-block (x .to-bits .result) (y .to-bits2 .result) (z .to-bits3 .result) (b .feed) (b .radius) (b .mark)
-        ∙ (λ i. joined recordLayout
-            ((x .to-bits .ensures .is ∙ ap (bitsOf 21) (toZ-ofZ {w = w64} {z = b .x} (record { sfits = x .before .struct-told .given .0 .1 }))) i
-            ∷ (y .to-bits2 .ensures .is ∙ ap (bitsOf 21) (toZ-ofZ {w = w64} {z = b .y} (record { sfits = y .before .struct-told2 .given .1 .0 .1 }))) i
-            ∷ (z .to-bits3 .ensures .is ∙ ap (bitsOf 21) (toZ-ofZ {w = w64} {z = b .z} (record { sfits = z .before .struct-told3 .given .1 .1 .0 .1 }))) i
-            ∷ b .feed ∷ b .radius ∷ b .mark ∷ [])))
+    (words-of-block (x .to-bits .result) (y .to-bits2 .result) (z .to-bits3 .result) (b .feed) (b .radius) (b .mark)
+    ∙ (λ i. joined recordLayout
+    ((x .to-bits .ensures .is ∙ ap (bitsOf 21) (toZ-ofZ {w = w64} {z = b .x} (record { sfits = x .before .struct-told .given .0 .1 }))) i
+    ∷ (y .to-bits2 .ensures .is ∙ ap (bitsOf 21) (toZ-ofZ {w = w64} {z = b .y} (record { sfits = y .before .struct-told2 .given .1 .0 .1 }))) i
+    ∷ (z .to-bits3 .ensures .is ∙ ap (bitsOf 21) (toZ-ofZ {w = w64} {z = b .z} (record { sfits = z .before .struct-told3 .given .1 .1 .0 .1 }))) i
+    ∷ b .feed ∷ b .radius ∷ b .mark ∷ [])))
 
 pub store-record-spec : {M : Type 1} → statement M
 store-record-spec =

@@ -12,10 +12,6 @@ use Rattle.tape.proofs.Fits.{block-fits}
 use borrow.Author.Needs.{needs}
 use Rattle.tape.proofs.records.write_record.Statement.{statement}
 use Rattle.tape.proofs.records.write_record.Tie as tie
-use Rattle.tape.proofs.records.write_record.Reads as reads
-use Rattle.tape.proofs.records.write_record.Lts as lts
-use Rattle.machine.proofs.check.check_block.Reads as check-block-reads
-use Rattle.tape.proofs.records.store_record.Reads as store-record-reads
 
 check-block-requires : tie.Need-check-block-requires
 check-block-requires c κs = search needs

@@ -1,5 +1,5 @@
 -- `tape::whole::check_records` meets its contract: before record k those before it have passed. From `passed-next`, `fault-at` and `fault-none`. Assumes nothing.
-use mathlib.Core.Path.{_≡_, refl, sym, ap, _∙_}
+use mathlib.Core.Path.{_≡_, sym, ap, _∙_}
 use Prim.Native.Nat.{ℕ, _+_, _-_, _≤_}
 use native.Mathlib.Omega.{arith}
 use Rattle.machine.specs.Checks.{checkedNumber, blockRefusal}
@@ -10,10 +10,6 @@ use Rattle.tape.proofs.Faults.{part-record, Passed, passed-none, passed
 use borrow.Author.Needs.{needs}
 use Rattle.tape.proofs.whole.check_records.Statement.{statement}
 use Rattle.tape.proofs.whole.check_records.Tie as tie
-use Rattle.tape.proofs.whole.check_records.Reads as reads
-use Rattle.tape.proofs.whole.check_records.Lts as lts
-use Rattle.machine.proofs.check.check_block.Reads as check-block-reads
-use Rattle.tape.proofs.records.decode_record.Reads as decode-record-reads
 
 abbrev Inv-loop : tie.InvT-loop
 Inv-loop s n k₀ k = (k ≤ n) × Passed s k

@@ -1,5 +1,5 @@
 -- `tape::whole::read_head` meets its contract: the tests are the definition's, and the rest is what `read_limits` ensures. Assumes nothing.
-use mathlib.Core.Path.{_≡_, sym, ap, _∙_}
+use mathlib.Core.Path.{sym, _∙_}
 use Rattle.machine.specs.declared.Refusal.the-variants as why
 use Rattle.tape.specs.Tape.{limitsAt}
 use Rattle.tape.specs.Display.{byNumber, given, refused, readLimits, readHead}
@@ -8,9 +8,6 @@ use Rattle.tape.proofs.Checks.{head-many, head-short, head-ragged, head
 use borrow.Author.Needs.{needs}
 use Rattle.tape.proofs.whole.read_head.Statement.{statement}
 use Rattle.tape.proofs.whole.read_head.Tie as tie
-use Rattle.tape.proofs.whole.read_head.Reads as reads
-use Rattle.tape.proofs.whole.read_head.Lts as lts
-use Rattle.tape.proofs.limits.read_limits.Reads as read-limits-reads
 
 returns : tie.Need-returns
 unfolding readHead
