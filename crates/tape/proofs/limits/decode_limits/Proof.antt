@@ -1,0 +1,62 @@
+-- `tape::limits::decode_limits` meets its contract, from `limits-of-fields`. Assumes nothing.
+use mathlib.Core.Path.{_∙_}
+use Rattle.tape.proofs.Words.{limits-of-fields}
+use borrow.Author.Needs.{needs}
+use Rattle.tape.proofs.limits.decode_limits.Statement.{statement}
+use Rattle.tape.proofs.limits.decode_limits.Tie as tie
+
+read-field-requires : tie.Need-read-field-requires
+read-field-requires c κs = search needs
+
+read-field-requires-2 : tie.Need-read-field-requires-2
+read-field-requires-2 c κs = search needs
+
+read-field-requires-3 : tie.Need-read-field-requires-3
+read-field-requires-3 c κs = search needs
+
+read-field-requires-4 : tie.Need-read-field-requires-4
+read-field-requires-4 c κs = search needs
+
+read-field-requires-5 : tie.Need-read-field-requires-5
+read-field-requires-5 c κs = search needs
+
+read-field-requires-6 : tie.Need-read-field-requires-6
+read-field-requires-6 c κs = search needs
+
+read-field-requires-7 : tie.Need-read-field-requires-7
+read-field-requires-7 c κs = search needs
+
+read-field-requires-8 : tie.Need-read-field-requires-8
+read-field-requires-8 c κs = search needs
+
+read-field-requires-9 : tie.Need-read-field-requires-9
+read-field-requires-9 c κs = search needs
+
+returns : tie.Need-returns
+returns c =
+    let accel = c .before .before .before .before .before .before in
+    let speed = c .before .before .before in
+    let known = accel .before .before .before in
+    (λ i. record {
+      accel = record { x = accel .before .before .read-field .ensures .is i; y = accel .before .read-field2 .ensures .is i; z = accel .read-field3 .ensures .is i };
+      speed = record { x = speed .before .before .read-field4 .ensures .is i; y = speed .before .read-field5 .ensures .is i; z = speed .read-field6 .ensures .is i };
+      jump = c .before .before .read-field7 .ensures .is i;
+      chord = c .before .read-field8 .ensures .is i;
+      tick = c .read-field9 .ensures .is i;
+    })
+    ∙ limits-of-fields (record { each = λ i. known .shared-slice-known .given i .fits }) (known .before .pre)
+
+pub decode-limits-spec : {M : Type 1} → statement M
+decode-limits-spec =
+    tie.close
+    (tie.spec
+    read-field-requires
+    read-field-requires-2
+    read-field-requires-3
+    read-field-requires-4
+    read-field-requires-5
+    read-field-requires-6
+    read-field-requires-7
+    read-field-requires-8
+    read-field-requires-9
+    returns)

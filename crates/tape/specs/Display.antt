@@ -1,0 +1,149 @@
+-- Document 01, "Numbers on the display": what reading, writing and checking a tape answer. Assumes nothing.
+use Prim.Native.Nat.{ℕ, zero, suc, _-_, _%_}
+use mathlib.Core.Path.{_≡_}
+use mathlib.Core.Bool.{_||_, not}
+use mathlib.Core.List.{List, [], _∷_}
+use lib.Dec.{ltb, eqb}
+use lib.ListN.{length}
+use Rattle.fields.specs.Bytes.{withBytes}
+use Rattle.machine.specs.Checks.{pick, refusalNumber, checkedNumber, limitsRefusal, blockRefusal}
+use Rattle.machine.specs.declared.Limits.{Limits}
+use Rattle.machine.specs.declared.Block.{Block}
+use Rattle.machine.specs.declared.Checked.{Checked}
+use Rattle.tape.specs.Tape.{limitsBytes, limitsNumber, limitsAt, zeroBits, recordBytes, blockNumber, blockAt, recordsIn, tapeBlocks}
+use Rattle.tape.specs.declared.LimitsRead.{LimitsRead}
+use Rattle.tape.specs.declared.LimitsRead.the-variants as limits
+use Rattle.tape.specs.declared.RecordRead.{RecordRead}
+use Rattle.tape.specs.declared.RecordRead.the-variants as rec
+use Rattle.tape.specs.declared.TapeCheck.{TapeCheck}
+use Rattle.tape.specs.declared.TapeCheck.the-variants as whole
+
+-- what a call whose number on the display is n comes to: the first where it is 0, which says that nothing is refused, else the second
+abbrev pub byNumber : {A : Type 0} → (n : ℕ) → A → A → A
+byNumber zero a b = a
+byNumber (suc n) a b = b
+
+-- "where several hold, it is the first": the first of two numbers that is not 0
+infixr 5 _then_
+abbrev pub _then_ : ℕ → ℕ → ℕ
+a then b = byNumber a b a
+
+-- 9 where fewer bytes than n are lent, else 0
+abbrev pub raggedBelow : (n : ℕ) → List ℕ → ℕ
+raggedBelow n s = pick (ltb (length s) n) 9 0
+
+-- 1 where a limit on tape is outside its range or a zero bit is set, else 0
+unfoldable pub limitsFault : List ℕ → ℕ
+limitsFault s = pick (eqb (zeroBits s) 0) (limitsRefusal (limitsAt s)) 1
+
+-- "Reading the limits or one record alone checks 9 first"
+unfoldable pub limitsReadRefusal : List ℕ → ℕ
+limitsReadRefusal s = raggedBelow limitsBytes s then limitsFault s
+
+unfoldable pub recordReadRefusal : List ℕ → ℕ
+recordReadRefusal s = raggedBelow recordBytes s then blockRefusal (blockAt s)
+
+-- "Writing checks the fields first, then 9"
+unfoldable pub limitsWriteRefusal : Limits → List ℕ → ℕ
+limitsWriteRefusal l s = limitsRefusal l then raggedBelow limitsBytes s
+
+unfoldable pub recordWriteRefusal : Block → List ℕ → ℕ
+recordWriteRefusal b s = blockRefusal b then raggedBelow recordBytes s
+
+-- the lent bytes after writing: those named for it, or none where it is refused
+unfoldable pub limitsWritten : Limits → List ℕ → List ℕ
+limitsWritten l s = byNumber (limitsWriteRefusal l s) (withBytes s 0 limitsBytes (limitsNumber l)) s
+
+unfoldable pub recordWritten : Block → List ℕ → List ℕ
+recordWritten b s = byNumber (recordWriteRefusal b s) (withBytes s 0 recordBytes (blockNumber b)) s
+
+-- a writer's number is n and leaves the bytes t
+pub record Wrote (n : ℕ) (t : List ℕ) (r : Checked) (left : List ℕ) : Type 0 where
+  pub number : checkedNumber r ≡ n
+  pub bytes : left ≡ t
+
+-- what a call answers: what it gives, or why it refuses
+pub data Answer (Why What : Type 0) : Type 0 where
+  given : What → Answer Why What
+  refused : Why → Answer Why What
+
+-- the answer of each case of reading limits, and what bytes are answered
+abbrev pub limitsAnswer : LimitsRead → Answer ℕ Limits
+limitsAnswer (limits.Read l) = given l
+limitsAnswer (limits.Refused why) = refused (refusalNumber why)
+
+unfoldable pub readLimits : List ℕ → Answer ℕ Limits
+readLimits s = byNumber (limitsReadRefusal s) (given (limitsAt s)) (refused (limitsReadRefusal s))
+
+-- the answer of each case of reading a record, and what bytes are answered
+abbrev pub recordAnswer : RecordRead → Answer ℕ Block
+recordAnswer (rec.Read b) = given b
+recordAnswer (rec.Refused why) = refused (refusalNumber why)
+
+unfoldable pub readRecord : List ℕ → Answer ℕ Block
+readRecord s = byNumber (recordReadRefusal s) (given (blockAt s)) (refused (recordReadRefusal s))
+
+-- "A refusal returns its number, and from the whole tape the record's place counted from 1 (0 if no record is at fault)";
+-- the number 0 says that nothing is refused
+pub record Fault : Type 0 where
+  pub number : ℕ
+  pub place : ℕ
+
+infixl 6 _at_
+abbrev pub _at_ : ℕ → ℕ → Fault
+n at p = record { number = n; place = p }
+
+-- the first of two faults that has a number
+infixr 5 _else_
+abbrev pub _else_ : Fault → Fault → Fault
+f else g = byNumber (f .number) g f
+
+-- "each record in turn": the first fault of the blocks, of which the first has place p
+unfoldable pub faultFrom : (p : ℕ) → List Block → Fault
+faultFrom p [] = 0 at 0
+faultFrom p (b ∷ rest) = blockRefusal b at p else faultFrom (suc p) rest
+
+-- greatest length of a tape: 2,048 records
+abbrev pub mostBytes : ℕ
+mostBytes = 32_792
+
+-- 10 where a tape is longer, else 0
+abbrev pub manyIn : List ℕ → ℕ
+manyIn s = pick (ltb mostBytes (length s)) 10 0
+
+-- 9 where a tape is under 24 bytes or its rest no multiple of 16, else 0
+abbrev pub raggedIn : List ℕ → ℕ
+raggedIn s = pick (ltb (length s) limitsBytes || not (eqb ((length s - limitsBytes) % recordBytes) 0)) 9 0
+
+-- "The whole tape checks 10, 9, 1, then each record in turn"
+unfoldable pub headRefusal : List ℕ → ℕ
+headRefusal s = manyIn s then raggedIn s then limitsFault s
+
+unfoldable pub tapeFault : List ℕ → Fault
+tapeFault s = headRefusal s at 0 else faultFrom 1 (tapeBlocks s)
+
+-- its number and its place
+abbrev pub tapeRefusal : List ℕ → ℕ
+tapeRefusal s = tapeFault s .number
+
+abbrev pub tapePlace : List ℕ → ℕ
+tapePlace s = tapeFault s .place
+
+-- what the first three of these checks answer: the tape's limits, or their number
+unfoldable pub readHead : List ℕ → Answer ℕ Limits
+readHead s = byNumber (headRefusal s) (given (limitsAt s)) (refused (headRefusal s))
+
+-- the answer of each case of checking a whole tape, and what a tape is answered: the number of its blocks, or its fault
+abbrev pub tapeAnswer : TapeCheck → Answer Fault ℕ
+tapeAnswer (whole.Accepted n) = given n
+tapeAnswer (whole.Refused why p) = refused (refusalNumber why at p)
+
+-- the answer of a fault, of a tape s
+abbrev pub byFault : Fault → List ℕ → Answer Fault ℕ
+byFault f s = byNumber (f .number) (given (recordsIn s)) (refused f)
+
+unfoldable pub checkRecords : List ℕ → Answer Fault ℕ
+checkRecords s = byFault (faultFrom 1 (tapeBlocks s)) s
+
+unfoldable pub checkTape : List ℕ → Answer Fault ℕ
+checkTape s = byFault (tapeFault s) s

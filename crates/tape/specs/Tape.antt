@@ -1,0 +1,108 @@
+-- Document 01, "Tape": what the bytes of a tape say. Fields are packed without gaps, most significant bit first. Assumes nothing.
+use Prim.Native.Nat.{ℕ, zero, suc, _+_, _-_, _*_, _/_}
+use mathlib.Core.List.{List, [], _∷_}
+use lib.ListN.{length, take, drop, getD}
+use Rattle.fields.specs.Layouts.{joined, split}
+use Rattle.fields.specs.Bytes.{numberOf}
+use Rattle.fields.specs.Signed.{signedOf, bitsOf}
+use Rattle.machine.specs.declared.Limits.{Limits}
+use Rattle.machine.specs.declared.Block.{Block}
+
+-- "Limits, 24 bytes: acceleration X, Y, Z (25 bits each), speed X, Y, Z (20 each), J (20), E (10), T (14), 13 zero bits"
+abbrev pub limitsBytes : ℕ
+limitsBytes = 24
+
+abbrev pub limitsLayout : List ℕ
+limitsLayout = 25 ∷ 25 ∷ 25 ∷ 20 ∷ 20 ∷ 20 ∷ 20 ∷ 10 ∷ 14 ∷ 13 ∷ []
+
+-- the values of these fields, of limits, with the zero bits 0
+abbrev pub limitsFields : Limits → List ℕ
+limitsFields l =
+    l .accel .x ∷ l .accel .y ∷ l .accel .z ∷ l .speed .x ∷ l .speed .y ∷ l .speed .z ∷ l .jump ∷ l .chord ∷ l .tick ∷ 0 ∷ []
+
+-- the limits that the values of these fields say
+abbrev pub limitsFrom : List ℕ → Limits
+limitsFrom vs =
+    record {
+      accel = record { x = getD vs 0 0; y = getD vs 1 0; z = getD vs 2 0 };
+      speed = record { x = getD vs 3 0; y = getD vs 4 0; z = getD vs 5 0 };
+      jump = getD vs 6 0;
+      chord = getD vs 7 0;
+      tick = getD vs 8 0;
+    }
+
+-- limits as the number that their 24 bytes write
+unfoldable pub limitsNumber : Limits → ℕ
+limitsNumber l = joined limitsLayout (limitsFields l)
+
+-- the values of the fields in the first 24 bytes
+abbrev pub limitsValues : List ℕ → List ℕ
+limitsValues s = split limitsLayout (numberOf (take limitsBytes s))
+
+-- the limits, and the zero bits, that the first 24 bytes say
+unfoldable pub limitsAt : List ℕ → Limits
+limitsAt s = limitsFrom (limitsValues s)
+
+unfoldable pub zeroBits : List ℕ → ℕ
+zeroBits s = getD (limitsValues s) 9 0
+
+-- "Record, 16 bytes: move X, Y, Z (21 each), feed (20), radius (24), mark (21)"; moves are two's complement
+abbrev pub recordBytes : ℕ
+recordBytes = 16
+
+abbrev pub moveBits : ℕ
+moveBits = 21
+
+abbrev pub recordLayout : List ℕ
+recordLayout = moveBits ∷ moveBits ∷ moveBits ∷ 20 ∷ 24 ∷ 21 ∷ []
+
+-- the values of these fields, of a block
+abbrev pub blockFields : Block → List ℕ
+blockFields b = bitsOf moveBits (b .x) ∷ bitsOf moveBits (b .y) ∷ bitsOf moveBits (b .z) ∷ b .feed ∷ b .radius ∷ b .mark ∷ []
+
+-- the block that the values of these fields say
+abbrev pub blockFrom : List ℕ → Block
+blockFrom vs =
+    record {
+      x = signedOf moveBits (getD vs 0 0);
+      y = signedOf moveBits (getD vs 1 0);
+      z = signedOf moveBits (getD vs 2 0);
+      feed = getD vs 3 0;
+      radius = getD vs 4 0;
+      mark = getD vs 5 0;
+    }
+
+-- a block as the number that its 16 bytes write
+unfoldable pub blockNumber : Block → ℕ
+blockNumber b = joined recordLayout (blockFields b)
+
+-- the values of the fields in the first 16 bytes
+abbrev pub recordValues : List ℕ → List ℕ
+recordValues s = split recordLayout (numberOf (take recordBytes s))
+
+-- the block that the first 16 bytes say
+unfoldable pub blockAt : List ℕ → Block
+blockAt s = blockFrom (recordValues s)
+
+-- "Record k, from 0, begins at byte 24 + 16 × k"
+abbrev pub recordStart : ℕ → ℕ
+recordStart k = limitsBytes + recordBytes * k
+
+abbrev pub recordAt : List ℕ → ℕ → Block
+recordAt s k = blockAt (drop (recordStart k) s)
+
+-- how many records a tape has behind its limits
+abbrev pub recordsIn : List ℕ → ℕ
+recordsIn s = (length s - limitsBytes) / recordBytes
+
+-- n blocks of a tape, from record k on
+unfoldable pub blocksFrom : List ℕ → (k n : ℕ) → List Block
+blocksFrom s k zero = []
+blocksFrom s k (suc n) = recordAt s k ∷ blocksFrom s (suc k) n
+
+-- the limits and the blocks of a whole tape
+abbrev pub tapeLimits : List ℕ → Limits
+tapeLimits s = limitsAt s
+
+unfoldable pub tapeBlocks : List ℕ → List Block
+tapeBlocks s = blocksFrom s 0 (recordsIn s)
