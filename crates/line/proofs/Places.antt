@@ -19,8 +19,7 @@ use Rattle.machine.specs.Numbers.{LimitsBelow, numbersOf, lengthOf, blockCap, j
 use Rattle.machine.specs.declared.Block.{Block}
 use Rattle.machine.specs.declared.Limits.{Limits}
 use Rattle.machine.specs.declared.Numbers.{Numbers}
-use Rattle.machine.proofs.Bounds.{moves-below}
-use Rattle.machine.proofs.Known.{limits-below, short}
+use Rattle.machine.proofs.Bounds.{limits-below, moves-below, short}
 use Rattle.line.specs.Blocks.{mostHeld}
 use Rattle.line.specs.Ring.{Place, Ring, noPlace, cutLimits, slot, placeAt, withPlace, blockIn, numbersIn, placeOf, junctionAfter}
 use Rattle.line.specs.Holds.{Placed, noBlock}
@@ -59,7 +58,7 @@ unfolding junctionAfter junctionCap cornerCap numbersOf
 junction-back l p a b r e n =
     let long : p .length ≡ lengthOf a = ap (λ (m : Numbers). m .length) n in
     let cap : p .cap ≡ blockCap l a = ap (λ (m : Numbers). m .cap) n in
-    let cut : lengthOf a % 2 ^ 30 ≡ lengthOf a = omega (arith, short l a r) in
+    let cut : lengthOf a % 2 ^ 30 ≡ lengthOf a = omega (arith, short a r) in
     rw (long, cap, cut, e)
 
 -- the reaches of the places are those of the steps

@@ -13,7 +13,7 @@ use Rattle.machine.specs.Line.{stepsOf, stepsAfter}
 use Rattle.machine.specs.Numbers.{blockCap, junctionCap, reachOf}
 use Rattle.machine.specs.declared.Block.{Block}
 use Rattle.machine.specs.declared.Limits.{Limits}
-use Rattle.machine.proofs.Known.{junction-under}
+use Rattle.machine.proofs.CapLaws.{junction-largest}
 use Rattle.line.specs.Holds.{blockAt}
 
 module _ (l : Limits) where
@@ -54,9 +54,9 @@ module _ (l : Limits) where
     pub rest-under : (blocks : List Block) → brake (drop 1 (stepsOf l (a ∷ blocks))) ≤ blockCap l a
     unfolding stepsOf stepsAfter brake
     rest-under [] = zero-le
-    rest-under (b ∷ blocks) = omega (arith, junction-under l a b)
+    rest-under (b ∷ blocks) = omega (arith, junction-largest l a b .has)
 
     pub rest-entered : (blocks : List Block) → brake (drop 1 (stepsOf l (a ∷ blocks))) ≤ blockCap l (blockAt blocks 0)
     unfolding stepsOf stepsAfter brake
     rest-entered [] = zero-le
-    rest-entered (b ∷ blocks) = omega (arith, junction-under l a b)
+    rest-entered (b ∷ blocks) = omega (arith, junction-largest l a b .has)

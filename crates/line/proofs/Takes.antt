@@ -17,7 +17,8 @@ use Rattle.machine.specs.Numbers.{numbersOf, rampOf, rampable, noRamp}
 use Rattle.machine.specs.declared.Block.{Block}
 use Rattle.machine.specs.declared.Limits.{Limits}
 use Rattle.machine.specs.declared.Numbers.{Numbers}
-use Rattle.machine.proofs.Known.{rampable-within}
+use Rattle.machine.proofs.Rampables.{rampable-holds}
+use Rattle.machine.proofs.RampLaws.{numbers-rampable}
 use Rattle.line.specs.declared.Given.{Given}
 use Rattle.line.specs.Answers.{gave, givenOf}
 use Rattle.line.specs.Blocks.{Line, take, takeAnswer, takeAfter, lineAnswer, lineAfter}
@@ -67,10 +68,11 @@ module _ {r : Ring} {l : Limits} {committed : ℕ} {a : Block} {rest : List Bloc
   ramped : rampable (numbersOf l a) committed exit ≡ true
   ramped =
       let lawful = plan-lawful committed steps (h .brakes) in
-      rampable-within l a (h .passed 0 (omega arith)) committed exit (h .entered (omega arith))
+      rampable-holds (numbersOf l a) committed exit
+      (numbers-rampable l a committed exit (h .passed 0 (omega arith)) (h .entered (omega arith))
       (omega (arith, exit-is, rest-under l a rest))
       (omega (arith, lawful .falls 0 some, lawful .begins, steps-reach noBlock l (a ∷ rest) 0 (omega arith)))
-      (omega (arith, lawful .rises 0 some, lawful .begins, steps-reach noBlock l (a ∷ rest) 0 (omega arith)))
+      (omega (arith, lawful .rises 0 some, lawful .begins, steps-reach noBlock l (a ∷ rest) 0 (omega arith))))
 
   -- so the block is given out as the line says
   given-right : givenIn r ≡ givenOf l a (numberAt (planOf committed steps) 0) exit

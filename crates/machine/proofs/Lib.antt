@@ -1,8 +1,12 @@
 -- The laws of the machine's numbers.
+pub mod AnswerLaws
+pub mod AxisLaws
 pub mod Bounds
+pub mod CapLaws
 pub mod Dots
-pub mod Known
+pub mod LengthLaws
 pub mod Limited
+pub mod RampLaws
 pub mod Rampables
-pub mod Tests
 pub mod Steps
+pub mod Tests

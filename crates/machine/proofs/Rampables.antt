@@ -2,7 +2,7 @@
 use mathlib.Core.Path.{_≡_, refl, ap, _∙_}
 use mathlib.Core.Bool.{Bool, true, false, _&&_}
 use Prim.Native.Nat.{ℕ, _+_, _^_, _≤_, _<_}
-use borrow.Author.Tests.{leb-true, ltb-true}
+use borrow.Author.Tests.{leb-true, ltb-true, le-leb, lt-ltb}
 use lib.Dec.{leb, ltb}
 use Rattle.machine.specs.Numbers.{Rampable, sized, rampable}
 use Rattle.machine.specs.declared.Numbers.{Numbers}
@@ -63,3 +63,18 @@ rampable-unsized n entry exit a = rw a
 pub rampable-apart : (n : Numbers) (entry exit : ℕ) → sized n entry exit ≡ true → leb entry (exit + n .reach) && leb exit (entry + n .reach) ≡ false → rampable n entry exit ≡ false
 unfolding rampable
 rampable-apart n entry exit a b = rw (a, b)
+
+-- and the test of speeds that can be ramped holds
+pub rampable-holds : (n : Numbers) (entry exit : ℕ) → Rampable n entry exit → rampable n entry exit ≡ true
+unfolding rampable
+rampable-holds n entry exit r =
+    rw (
+      lt-ltb 0 (n .accel) (r .accel-above),
+      lt-ltb (n .accel) (2 ^ 32) (r .accel-below),
+      lt-ltb (n .cap) (2 ^ 50) (r .cap-below),
+      lt-ltb (n .reach) (2 ^ 62) (r .reach-below),
+      le-leb entry (n .cap) (r .entry-capped),
+      le-leb exit (n .cap) (r .exit-capped),
+      le-leb entry (exit + n .reach) (r .falls),
+      le-leb exit (entry + n .reach) (r .rises),
+    )

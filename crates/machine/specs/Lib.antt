@@ -1,5 +1,7 @@
--- Document 01's machine and block: ranges, refusals and numbers.
+-- Document 01's machine and block: ranges, refusals, numbers, what the numbers mean, and what the calls answer.
+pub mod Answers
 pub mod Checks
 pub mod Line
+pub mod Meaning
 pub mod Numbers
 pub mod Ranges
