@@ -1,2 +1,5 @@
+-- The laws of planning a whole tape.
+pub mod Answered
 pub mod Filled
 pub mod LentLaws
+pub mod Surveys

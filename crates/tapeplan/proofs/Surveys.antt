@@ -1,0 +1,71 @@
+-- The survey of a tape's records, one after the other. From the laws of filled lists, of steps and of a tape's faults. Assumes nothing.
+use mathlib.Core.Path.{_≡_, refl, sym, ap, _∙_}
+use mathlib.Core.List.{List}
+use Prim.Native.Nat.{ℕ, zero, suc, _+_, _-_, _≤_, _<_}
+use native.Mathlib.Nat.{add-zero}
+use native.Mathlib.Numerals.{add-one}
+use native.Mathlib.Omega.{arith}
+use lib.Dec.{eqb, eqb·suc-zero}
+use lib.ListN.{length, getD, drop, take, set}
+use lib.Seq.{getD-drop}
+use Rattle.profile.specs.Line.{Step, capAt, reachAt}
+use Rattle.machine.specs.Checks.{pick, blockRefusal}
+use Rattle.machine.specs.Numbers.{junctionCap, numbersOf, reachOf}
+use Rattle.machine.specs.Line.{stepsOf}
+use Rattle.machine.specs.declared.Block.{Block}
+use Rattle.machine.specs.declared.Limits.{Limits}
+use Rattle.machine.specs.declared.Numbers.{Numbers}
+use Rattle.machine.proofs.Steps.{steps-length, steps-first, steps-cap, steps-reach}
+use Rattle.tape.specs.Tape.{recordAt, recordsIn, tapeBlocks}
+use Rattle.tape.proofs.Faults.{length-blocks, drop-blocks, Passed, passed-next}
+use Rattle.tapeplan.specs.Lent.{lineOf}
+use Rattle.tapeplan.proofs.Filled.{Filled, filled-more, filled-line}
+
+module _ (l : Limits) (s : List ℕ) where
+  abbrev steps : List Step
+  steps = stepsOf l (tapeBlocks s)
+
+  -- block k of the tape is that of record k
+  block-is : (k : ℕ) → k < recordsIn s → getD (tapeBlocks s) k (recordAt s 0) ≡ recordAt s k
+  block-is k h = sym (ap (λ (i : ℕ). getD (tapeBlocks s) i (recordAt s 0)) (add-zero k)) ∙ sym (getD-drop k (tapeBlocks s) 0 (recordAt s 0)) ∙ ap (λ (t : List Block). getD t 0 (recordAt s 0)) (drop-blocks s h)
+
+  -- its cap and its reach
+  cap-is : (k : ℕ) (before : Block) → k < recordsIn s → (0 < k → before ≡ recordAt s (k - 1)) → pick (eqb k 0) 0 (junctionCap l before (recordAt s k)) ≡ capAt steps k
+  cap-is zero before h e = sym (steps-first l (tapeBlocks s))
+  cap-is (suc k) before h e =
+      let back : suc k - 1 ≡ k = omega arith in
+      ap (λ t. pick t 0 (junctionCap l before (recordAt s (suc k)))) (eqb·suc-zero k)
+      ∙ (λ i. junctionCap l ((e (omega arith) ∙ ap (recordAt s) back ∙ sym (block-is k (omega arith))) i) (sym (block-is (suc k) h) i))
+      ∙ sym (steps-cap (recordAt s 0) l (tapeBlocks s) k (omega (arith, length-blocks s)))
+
+  reach-is : (k : ℕ) → k < recordsIn s → reachOf l (recordAt s k) ≡ reachAt steps k
+  reach-is k h = sym (steps-reach (recordAt s 0) l (tapeBlocks s) k (omega (arith, length-blocks s)) ∙ ap (reachOf l) (block-is k h))
+
+  -- the first k records have passed, and the lists have their caps and reaches
+  pub record Surveying (caps reaches : List ℕ) (before : Block) (known : Numbers) (k : ℕ) : Type 0 where
+    pub passed : Passed s k
+    pub capped : Filled caps k (capAt steps)
+    pub reached : Filled reaches k (reachAt steps)
+    pub previous : 0 < k → (before ≡ recordAt s (k - 1)) × (blockRefusal before ≡ 0) × (known ≡ numbersOf l before)
+
+  -- one record more
+  pub survey-next : {caps reaches : List ℕ} {before : Block} {known : Numbers} (k : ℕ) (b : Block) (n : Numbers) (cap : ℕ)
+      → Surveying caps reaches before known k → k < recordsIn s → k < length caps → k < length reaches → b ≡ recordAt s k → blockRefusal b ≡ 0 → n ≡ numbersOf l b
+      → cap ≡ pick (eqb k 0) 0 (junctionCap l before b) → Surveying (set caps k cap) (set reaches k (n .reach)) b n (k + 1)
+  unfolding numbersOf
+  survey-next {caps} {reaches} {before} k b n cap v h cs rs e p q f =
+      let back : k ≡ k + 1 - 1 = omega arith in
+      record {
+        passed = passed-next s (v .passed) h (ap blockRefusal (sym e) ∙ p);
+        capped = filled-more caps k cap (capAt steps) cs (f ∙ ap (λ (c : Block). pick (eqb k 0) 0 (junctionCap l before c)) e ∙ cap-is k before h (λ z. v .previous z .0)) (v .capped);
+        reached = filled-more reaches k (n .reach) (reachAt steps) rs (ap (λ (m : Numbers). m .reach) q ∙ ap (reachOf l) e ∙ reach-is k h) (v .reached);
+        previous = λ z. (e ∙ ap (recordAt s) back, p, q);
+      }
+
+  -- all of them
+  pub survey-all : {caps reaches : List ℕ} {before : Block} {known : Numbers} {k : ℕ} → Surveying caps reaches before known k → recordsIn s ≤ k → recordsIn s ≤ length caps → recordsIn s ≤ length reaches
+      → lineOf (take (recordsIn s) caps) (take (recordsIn s) reaches) ≡ steps
+  survey-all {caps} {reaches} v h cs rs =
+      let n : length steps ≡ recordsIn s = steps-length l (tapeBlocks s) ∙ length-blocks s in
+      ap (λ (m : ℕ). lineOf (take m caps) (take m reaches)) (sym n)
+      ∙ filled-line steps caps reaches (omega arith) (omega arith) (λ i b. v .capped i (omega arith)) (λ i b. v .reached i (omega arith))

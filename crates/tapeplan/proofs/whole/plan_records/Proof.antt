@@ -1,0 +1,126 @@
+-- `tapeplan::whole::plan_records` meets its contract: the survey's lists are the tape's line, which the passes plan. Assumes nothing.
+use mathlib.Core.Path.{_≡_, refl, sym, ap, _∙_}
+use mathlib.Core.List.{List}
+use Prim.Native.Nat.{ℕ, _+_, _≤_}
+use borrow.Author.Needs.{needs}
+use native.Mathlib.Omega.{arith}
+use lib.ListN.{length, take}
+use lib.Seq.{length-take-le}
+use Rattle.profile.specs.Line.{Step}
+use Rattle.profile.specs.Passes.{planOf}
+use Rattle.machine.specs.Checks.{limitsRefusal}
+use Rattle.machine.specs.Line.{stepsOf}
+use Rattle.machine.specs.declared.Limits.{Limits}
+use Rattle.machine.proofs.Bounds.{limits-below}
+use Rattle.tape.specs.Tape.{limitsAt, recordsIn, tapeBlocks}
+use Rattle.tape.specs.Display.{Fault, tapeFault, faultFrom, tapeAnswer, checkRecords}
+use Rattle.tape.proofs.Answers.{given-is, refused-is}
+use Rattle.tape.proofs.Checks.{head-passed, head-records, limits-faultless}
+use Rattle.tape.proofs.Faults.{fault-records}
+use Rattle.tapeplan.specs.Lent.{lineOf}
+use Rattle.tapeplan.proofs.Answered.{tape-refused, list-refused, tape-planned}
+use Rattle.tapeplan.proofs.whole.plan_records.Statement.{statement}
+use Rattle.tapeplan.proofs.whole.plan_records.Tie as tie
+
+slice-aggregate-survey : tie.Need-slice-aggregate-survey
+slice-aggregate-survey c = search needs
+
+slice-aggregate-survey-2 : tie.Need-slice-aggregate-survey-2
+slice-aggregate-survey-2 c = search needs
+
+survey-requires : tie.Need-survey-requires
+survey-requires c κs =
+    let a = c .before .before .before .before in
+    let s = a .args .s .now in
+    let head = head-passed s (a .pre .0) in
+    (limits-below (a .args .l) (ap limitsRefusal (a .pre .1) ∙ limits-faultless s (head .limits) .1), head .least, head-records s head, head-records s head)
+
+enum-known-why : tie.Need-enum-known-why
+enum-known-why c = search needs
+
+enum-known-n : tie.Need-enum-known-n
+enum-known-n c = search needs
+
+-- what is known where the records pass: no fault, and n records
+module _ (c : tie.After-known-told2) where
+  abbrev surveyed : tie.After-survey
+  surveyed = c .before .before .before .before .before
+
+  abbrev start : tie.Start
+  start = surveyed .before .before .before .before .before
+
+  abbrev n : ℕ
+  n = c .before .n .given .0 .0
+
+  passed : (faultFrom 1 (tapeBlocks (start .args .s .now)) .number ≡ 0) × (n ≡ recordsIn (start .args .s .now))
+  unfolding checkRecords
+  passed =
+      given-is (recordsIn (start .args .s .now)) (faultFrom 1 (tapeBlocks (start .args .s .now))) (faultFrom 1 (tapeBlocks (start .args .s .now)) .number)
+      (sym (ap tapeAnswer (c .before .n .given .1)) ∙ surveyed .survey .ensures .answer)
+
+  faultless : tapeFault (start .args .s .now) .number ≡ 0
+  faultless = ap (λ (f : Fault). f .number) (fault-records (start .args .s .now) (start .pre .0)) ∙ passed .0
+
+  few : n ≤ 2048
+  few = omega (arith, passed .1, head-records (start .args .s .now) (head-passed (start .args .s .now) (start .pre .0)))
+
+  line-is : lineOf (take n (surveyed .survey .last .1 .1 .0)) (take n (surveyed .survey .last .1 .1 .1 .0)) ≡ stepsOf (limitsAt (start .args .s .now)) (tapeBlocks (start .args .s .now))
+  line-is =
+      ap (λ (m : ℕ). lineOf (take m (surveyed .survey .last .1 .1 .0)) (take m (surveyed .survey .last .1 .1 .1 .0))) (passed .1)
+      ∙ surveyed .survey .ensures .line (passed .0)
+      ∙ ap (λ (l : Limits). stepsOf l (tapeBlocks (start .args .s .now))) (start .pre .1)
+
+  caps-long : length (take n (surveyed .survey .last .1 .1 .0)) ≡ n
+  caps-long = length-take-le n (surveyed .survey .last .1 .1 .0) (omega (arith, few, surveyed .survey .kept .1 .1 .0))
+
+  reaches-long : length (take n (surveyed .survey .last .1 .1 .1 .0)) ≡ n
+  reaches-long = length-take-le n (surveyed .survey .last .1 .1 .1 .0) (omega (arith, few, surveyed .survey .kept .1 .1 .1 .0))
+
+add-if1 : tie.Need-add-if1
+add-if1 c = record { fits = omega (arith, few c) }
+
+returns : tie.Need-returns
+returns c = let k = c .before in list-refused (start k .args .s .now) (start k .args .list .now) (faultless k) (λ e. c .if1 .taken (e ∙ ap (λ (m : ℕ). m + 1) (sym (passed k .1))))
+
+array-share-prefix-caps : tie.Need-array-share-prefix-caps
+array-share-prefix-caps c = let k = c .before in omega (arith, few k, surveyed k .survey .kept .1 .1 .0)
+
+slice-aggregate-plan-into : tie.Need-slice-aggregate-plan-into
+slice-aggregate-plan-into c = sym (caps-long (c .before .before))
+
+array-share-prefix-reaches : tie.Need-array-share-prefix-reaches
+array-share-prefix-reaches c = let k = c .before .before in omega (arith, few k, surveyed k .survey .kept .1 .1 .1 .0)
+
+slice-aggregate-plan-into-2 : tie.Need-slice-aggregate-plan-into-2
+slice-aggregate-plan-into-2 c = sym (reaches-long (c .before .before .before))
+
+plan-into-requires : tie.Need-plan-into-requires
+plan-into-requires c κs =
+    let e = c .before .before .before in
+    let k = e .before in
+    (caps-long k ∙ sym (reaches-long k), omega (arith, caps-long k, e .if1 .left))
+
+returns-2 : tie.Need-returns-2
+unfolding checkRecords
+returns-2 c =
+    let w = c .before .why in
+    let v = c .before .before .before .before .before in
+    let a = v .before .before .before .before .before in
+    let s = a .args .s .now in
+    let r = refused-is (recordsIn s) (faultFrom 1 (tapeBlocks s)) (faultFrom 1 (tapeBlocks s) .number) (sym (ap tapeAnswer (w .given .1)) ∙ v .survey .ensures .answer) in
+    tape-refused s (a .args .list .now) (w .given .0 .0) (w .given .0 .1 .0) (fault-records s (a .pre .0) ∙ sym (r .1))
+
+same-length : tie.Need-same-length
+same-length c = search needs
+
+returns-3 : tie.Need-returns-3
+returns-3 c =
+    let p = c .before .before in
+    let e = p .before .before .before .before in
+    let k = e .before in
+    tape-planned (start k .args .s .now) (start k .args .list .now) (faultless k) (omega (arith, e .if1 .left, passed k .1)) (p .plan-into .ensures ∙ ap (planOf 0) (line-is k))
+
+pub plan-records-spec : {M : Type 1} → statement M
+plan-records-spec =
+    tie.close
+    (tie.spec slice-aggregate-survey slice-aggregate-survey-2 survey-requires enum-known-why enum-known-n add-if1 returns array-share-prefix-caps slice-aggregate-plan-into array-share-prefix-reaches slice-aggregate-plan-into-2 plan-into-requires returns-2 same-length returns-3)
