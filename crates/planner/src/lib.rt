@@ -1,0 +1,2 @@
+// A planner.
+mod memory;
