@@ -7,8 +7,27 @@ use Rattle.machine.specs.Checks.{limitsRefusal}
 use Rattle.machine.specs.declared.Limits.{Limits}
 use Rattle.line.specs.Answers.{Answer}
 use Rattle.line.specs.Blocks.{Call}
-use Rattle.line.specs.Ring.{Ring, freshRing, ringAnswer, ringAfter, shownIn, showRefusal}
+use Rattle.line.specs.declared.Given.{Given}
+use Rattle.profile.specs.Passes.{brakeFrom, exitFrom}
+use Rattle.line.specs.Ring.{Place, Ring, givenIn, takenFrom, freshRing, ringAnswer, ringAfter, shownIn, showRefusal}
 use Rattle.planner.specs.View.{memorySize, viewOf}
+
+-- the backward and the forward step of a place's block
+abbrev pub brakeIn : Place → ℕ
+brakeIn p = brakeFrom (p .junction) (p .reach) (p .limit)
+
+abbrev pub exitIn : Place → (entry : ℕ) → ℕ
+exitIn p entry = exitFrom entry (p .reach) (p .limit)
+
+-- A memory that holds a ring.
+pub record Memory (ring : Ring) (m : List ℕ) : Type 0 where
+  pub sized : length m ≡ memorySize
+  pub view : viewOf m ≡ ring
+
+-- A memory from which a block was given out.
+pub record GaveFirst (entry : List ℕ) (out : Given) (exit : List ℕ) : Type 0 where
+  pub given : out ≡ givenIn (viewOf entry)
+  pub held : Memory (takenFrom (viewOf entry)) exit
 
 -- An add or a take. The view determines every number of the memory: the law `view-determines`.
 pub record Called (entry : List ℕ) (call : Call) (said : Answer) (exit : List ℕ) : Type 0 where

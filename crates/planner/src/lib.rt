@@ -1,2 +1,3 @@
 // A planner.
 mod memory;
+mod ring;

@@ -7,12 +7,15 @@ ghost use lib.ListN.{length};
 ghost use lib.Seq.{sets};
 ghost use Rattle.line.specs.Ring.{blockIn, cutLimits, numbersIn, placeOf};
 ghost use Rattle.planner.specs.View.{baseOf, limitNumbers, limitsFrom, memorySize, numbersFor, placeFrom};
+ghost use Rattle.planner.specs.Calls.{brakeIn, exitIn};
 use fields::to_bits;
 use fields::to_signed;
 use machine::Axes;
 use machine::Block;
 use machine::Limits;
 use machine::Numbers;
+use profile::brake_from;
+use profile::exit_from;
 
 // Numbers of the memory.
 pub const NUMBERS: usize = 780;
@@ -108,6 +111,27 @@ pub fn numbers_in(memory: &[u64], at: usize) -> Numbers
         reach: memory[at + REACH],
         cap: memory[at + CAP],
     }
+}
+
+// The greatest squared speed where a place's block begins from which it and the blocks after it can
+// brake, (µm/s)².
+pub fn brake_at(memory: &[u64], at: usize) -> u64
+    requires { ⌜ (length (now memory) ≡ memorySize) × (at ≤ 768) ⌝ }
+    ensures { λ r. ⌜ r ≡ brakeIn (placeFrom (now (memory .entry)) at) ⌝ }
+{
+    brake_from(
+        memory[at + JUNCTION],
+        memory[at + REACH],
+        memory[at + LIMIT],
+    )
+}
+
+// The squared speed at the end of a place's block, from its entry.
+pub fn exit_at(memory: &[u64], at: usize, entry: u64) -> u64
+    requires { ⌜ (length (now memory) ≡ memorySize) × (at ≤ 768) ⌝ }
+    ensures { λ r. ⌜ r ≡ exitIn (placeFrom (now (memory .entry)) at) entry ⌝ }
+{
+    exit_from(entry, memory[at + REACH], memory[at + LIMIT])
 }
 
 // Stores a block with its numbers in a place; nothing after it can be braked in yet.
