@@ -1,2 +1,3 @@
+pub mod Outcomes
 pub mod Steps
 pub mod View

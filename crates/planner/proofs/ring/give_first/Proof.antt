@@ -1,3 +1,7 @@
+use Prim.Native.Nat.{_<_}
+use lib.ListN.{getD, length-set}
+use Rattle.planner.specs.View.{viewOf}
+use Rattle.planner.proofs.Steps.{given-is, taken-is}
 use borrow.Author.Needs.{needs}
 use Rattle.planner.proofs.ring.give_first.Statement.{statement}
 use Rattle.planner.proofs.ring.give_first.Tie as tie
@@ -8,6 +12,9 @@ use Rattle.planner.proofs.memory.block_in.Reads as block-in-reads
 use Rattle.planner.proofs.memory.exit_at.Reads as exit-at-reads
 use Rattle.planner.proofs.memory.numbers_in.Reads as numbers-in-reads
 use Rattle.planner.proofs.memory.place.Reads as place-reads
+
+abbrev start : tie.After-block-in → tie.Start
+start c = c .before .before .before .before .before .before .before .before .before .before .before .before
 
 -- src/ring.rt:119:17
 slice-read-first : tie.Need-slice-read-first
@@ -51,7 +58,11 @@ slice-write-memory c = search needs
 
 -- src/ring.rt:128:21
 sub-memory : tie.Need-sub-memory
-sub-memory c = search needs
+unfolding viewOf
+sub-memory c =
+    let s = start c in
+    let some : 0 < getD (s .args .memory .now) 10 0 = s .pre .1 in
+    search needs
 
 -- src/ring.rt:128:5
 slice-write-memory-2 : tie.Need-slice-write-memory-2
@@ -67,7 +78,20 @@ same-length c = search needs
 
 -- src/ring.rt:115:1
 returns : tie.Need-returns
-returns c = ?
+unfolding viewOf
+returns c =
+    let x = c .before .before .before in
+    let n = x .before .before in
+    let p = n .before .before in
+    let s = start c in
+    let m = s .args .memory .now in
+    record {
+      given =
+          given-is m (p .place .result) (x .exit-at .result) (p .place .ensures .0) (x .exit-at .ensures)
+          (c .block-in .result) (n .numbers-in .result) (c .before .before .ramp-between .result)
+          (c .block-in .ensures) (n .numbers-in .ensures) (c .before .before .ramp-between .ensures);
+      held = record { sized = simp length-set (s .pre .0); view = taken-is m (p .place .result) (x .exit-at .result) (p .place .ensures .0) (x .exit-at .ensures) (s .pre .0) };
+    }
 
 pub give-first-spec : {M : Type 1} → statement M
 give-first-spec =

@@ -1,3 +1,8 @@
+use mathlib.Core.Path.{_∙_}
+use native.Mathlib.Omega.{arith}
+use borrow.Author.Tests.{eq-eqb}
+use Rattle.planner.specs.View.{placeFrom, viewOf}
+use Rattle.planner.proofs.Steps.{junction-is, moves-in}
 use borrow.Author.Needs.{needs}
 use Rattle.planner.proofs.ring.new_junction.Statement.{statement}
 use Rattle.planner.proofs.ring.new_junction.Tie as tie
@@ -14,7 +19,8 @@ shared-slice-read-count c = search needs
 
 -- src/ring.rt:55:9
 returns : tie.Need-returns
-returns c = ?
+unfolding viewOf
+returns c = simp (eq-eqb _ _ (c .if1 .taken))
 
 -- src/ring.rt:57:20
 shared-slice-read-place : tie.Need-shared-slice-read-place
@@ -62,11 +68,23 @@ shared-slice-read-length c = search needs
 
 -- src/ring.rt:61:5
 under-corner-requires : tie.Need-under-corner-requires
-under-corner-requires c κs = search needs
+under-corner-requires c κs =
+    let d = c .before in
+    let s = d .before .before .before .before .before .before .before in
+    (s .before .pre .1, omega arith, s .before .pre .2, rw (d .block-in .ensures) (moves-in (placeFrom (s .before .args .memory .now) (d .before .before .before .place .result))), s .before .pre .3)
 
 -- src/ring.rt:49:1
 returns-2 : tie.Need-returns-2
-returns-2 c = ?
+unfolding viewOf placeFrom
+returns-2 c =
+    let d = c .before .before in
+    let p = d .before .before .before in
+    let e = p .before .before in
+    let s = e .before .before .before in
+    let a = s .args in
+    c .under-corner .ensures
+    ∙ junction-is (a .memory .now) (p .place .result) (a .l) (a .b) (a .n) (p .place .ensures .0) (d .before .smaller .result) (d .block-in .result)
+    (e .if1 .left) (d .before .smaller .ensures) (d .block-in .ensures)
 
 pub new-junction-spec : {M : Type 1} → statement M
 new-junction-spec =

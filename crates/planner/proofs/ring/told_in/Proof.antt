@@ -1,3 +1,4 @@
+use Rattle.planner.specs.View.{viewOf}
 use borrow.Author.Needs.{needs}
 use Rattle.planner.proofs.ring.told_in.Statement.{statement}
 use Rattle.planner.proofs.ring.told_in.Tie as tie
@@ -15,7 +16,8 @@ smaller-requires c κs = search needs
 
 -- src/ring.rt:152:1
 returns : tie.Need-returns
-returns c = ?
+unfolding viewOf
+returns c = c .smaller .ensures
 
 pub told-in-spec : {M : Type 1} → statement M
 told-in-spec = tie.close (tie.spec shared-slice-read-smaller smaller-requires returns)
