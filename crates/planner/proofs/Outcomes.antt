@@ -17,7 +17,7 @@ use Rattle.line.specs.Answers.{Answer, accepted, gave, refused}
 use Rattle.line.specs.Blocks.{mostHeld, add, take, orElse, addRefusal, addAnswer}
 use Rattle.line.specs.Ring.{Ring, putLast, addedIn, givenIn, takenFrom, takenAnswer, takenIn, ringAnswer, ringAfter, toldOf, shownIn, showRefusal}
 use Rattle.planner.specs.View.{memorySize, viewOf}
-use Rattle.planner.specs.Calls.{Memory, GaveFirst, Called, Freshened, freshIn, Showed, showAnswer, shownList}
+use Rattle.planner.specs.Calls.{Memory, GaveFirst, Called, Freshened, freshIn, Showed, shownList}
 
 -- Every refusal has a number above 0.
 pub refusal-above : (r : Refusal) → 0 < refusalNumber r
@@ -109,8 +109,8 @@ module _ (m held : List ℕ) where
 
   pub shown-all : (exit : List ℕ) → length held ≡ toldOf (viewOf m) + 1 → exit ≡ shownIn (viewOf m) → Showed m held accepted exit
   shown-all exit e s =
-      record { answer = ap showAnswer (sym (right-length e)); list = s ∙ ap (λ (k : ℕ). shownList k (viewOf m) held) (sym (right-length e)) }
+      record { answer = ap addAnswer (sym (right-length e)); list = s ∙ ap (λ (k : ℕ). shownList k (viewOf m) held) (sym (right-length e)) }
 
   pub shown-none : (length held ≡ toldOf (viewOf m) + 1 → ⊥) → Showed m held (refused 11) held
   shown-none e =
-      record { answer = ap showAnswer (sym (wrong-length e)); list = ap (λ (k : ℕ). shownList k (viewOf m) held) (sym (wrong-length e)) }
+      record { answer = ap addAnswer (sym (wrong-length e)); list = ap (λ (k : ℕ). shownList k (viewOf m) held) (sym (wrong-length e)) }

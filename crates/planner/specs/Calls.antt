@@ -6,7 +6,7 @@ use lib.ListN.{length}
 use Rattle.machine.specs.Checks.{limitsRefusal}
 use Rattle.machine.specs.declared.Limits.{Limits}
 use Rattle.line.specs.Answers.{Answer}
-use Rattle.line.specs.Blocks.{Call}
+use Rattle.line.specs.Blocks.{Call, addAnswer}
 use Rattle.line.specs.declared.Given.{Given}
 use Rattle.profile.specs.Passes.{brakeFrom, exitFrom}
 use Rattle.line.specs.Ring.{Place, Ring, givenIn, takenFrom, freshRing, ringAnswer, ringAfter, shownIn, showRefusal}
@@ -46,14 +46,10 @@ pub record Freshened (entry : List ℕ) (l : Limits) (refusal : ℕ) (exit : Lis
   pub after : viewOf exit ≡ freshIn (limitsRefusal l) (viewOf entry) l
 
 -- The plan in a lent list, or refusal 11 and no change.
-abbrev pub showAnswer : (refusal : ℕ) → Answer
-showAnswer zero = Rattle.line.specs.Answers.accepted
-showAnswer (suc n) = Rattle.line.specs.Answers.refused (suc n)
-
 abbrev pub shownList : (refusal : ℕ) → Ring → List ℕ → List ℕ
 shownList zero r list = shownIn r
 shownList (suc n) r list = list
 
 pub record Showed (memory held : List ℕ) (said : Answer) (exit : List ℕ) : Type 0 where
-  pub answer : said ≡ showAnswer (showRefusal (viewOf memory) (length held))
+  pub answer : said ≡ addAnswer (showRefusal (viewOf memory) (length held))
   pub list : exit ≡ shownList (showRefusal (viewOf memory) (length held)) (viewOf memory) held

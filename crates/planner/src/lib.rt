@@ -14,10 +14,13 @@ use line::TakeAnswer;
 use machine::Block;
 use machine::Checked;
 use machine::Limits;
-use crate::memory::NUMBERS;
 
+pub mod exports;
 mod memory;
 mod ring;
+
+// Numbers of a planner's memory.
+pub const NUMBERS: usize = 780;
 
 // Makes a fresh planner of the limits; its places hold whatever they held. Refusal 1 changes
 // nothing.
@@ -80,17 +83,17 @@ pub struct TakenPlanner {
 
 impl Planner {
     // Blocks that are held at most.
-    pub const PLACES: u64 = 64;
+    pub const PLACES: u64 = memory::PLACES;
     // Ranges of the limits; each begins at 1, but for the tick. Accelerations, µm/s².
-    pub const MOST_ACCEL: u64 = 20_000_000;
+    pub const MOST_ACCEL: u64 = machine::check::MOST_ACCEL;
     // Speeds and corner jump, µm/s.
-    pub const MOST_SPEED: u64 = 1_000_000;
-    pub const MOST_JUMP: u64 = 1_000_000;
+    pub const MOST_SPEED: u64 = machine::check::MOST_SPEED;
+    pub const MOST_JUMP: u64 = machine::check::MOST_JUMP;
     // Chord tolerance, µm.
-    pub const MOST_CHORD: u64 = 1_000;
+    pub const MOST_CHORD: u64 = machine::check::MOST_CHORD;
     // Tick, microseconds.
-    pub const LEAST_TICK: u64 = 100;
-    pub const MOST_TICK: u64 = 10_000;
+    pub const LEAST_TICK: u64 = machine::check::LEAST_TICK;
+    pub const MOST_TICK: u64 = machine::check::MOST_TICK;
 
     pub fn fresh(l: Limits) -> Made
         ensures { λ r. ⌜ Freshened (replicate memorySize 0) l (checkedNumber (r .answer)) (r .planner .numbers) ⌝ }

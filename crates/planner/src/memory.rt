@@ -17,8 +17,6 @@ use machine::Numbers;
 use profile::brake_from;
 use profile::exit_from;
 
-// Numbers of the memory.
-pub const NUMBERS: usize = 780;
 // Blocks that a planner holds at most.
 pub const PLACES: u64 = 64;
 // The head: nine limits, the place of the first block, how many blocks are held, and the committed
