@@ -1,0 +1,41 @@
+-- From a call's promise to that of the function for C. Assumes nothing.
+use mathlib.Core.Path.{_≡_, refl, sym, ap, _∙_}
+use mathlib.Core.List.{List, [], _∷_, _++_, append-nil}
+use Prim.Native.Nat.{ℕ, zero, suc, _+_, _≤_}
+use native.Mathlib.Omega.{arith}
+use lib.IntN.{ℤ}
+use lib.ListN.{length, take, drop}
+use lib.Seq.{sets, sets-eq, drop-length}
+use Rattle.line.specs.Answers.{Answer}
+use Rattle.line.specs.Blocks.{Call, addAnswer}
+use Rattle.line.specs.Ring.{ringAnswer}
+use Rattle.planner.specs.View.{viewOf}
+use Rattle.planner.specs.Calls.{Called, Showed}
+use Rattle.planner.specs.Exports.{answerNumber, movesAfter, numbersAfter, Exported, Lent, Listed}
+
+-- A list stored from its begin to its end is what was stored.
+pub sets-all : {A : Type 0} (vs l : List A) → length l ≡ length vs → sets l 0 vs ≡ vs
+sets-all vs l e =
+    let all : 0 + length vs ≡ length l = omega arith in
+    sets-eq vs l 0 (omega arith) ∙ rw (all, drop-length l) (append-nil vs)
+
+-- A call by its number,
+pub exported : {m m′ : List ℕ} {call : Call} {said : Answer} (n : ℕ) → Called m call said m′ → n ≡ answerNumber said → Exported m call n m′
+exported n c e = record { sized = c .sized; number-is = e ∙ ap answerNumber (c .answer); after = c .after }
+
+-- with what is lent to it,
+pub lent : {m m′ : List ℕ} {call : Call} {said : Answer} → Called m call said m′ → (moves moves′ : List ℤ) (numbers numbers′ : List ℕ)
+    → moves′ ≡ movesAfter said moves → numbers′ ≡ numbersAfter said numbers → Lent (ringAnswer (viewOf m) call) moves moves′ numbers numbers′
+lent c moves moves′ numbers numbers′ e f =
+    record {
+      moves-are = e ∙ ap (λ (a : Answer). movesAfter a moves) (c .answer);
+      numbers-are = f ∙ ap (λ (a : Answer). numbersAfter a numbers) (c .answer);
+    }
+
+-- and the plan.
+pub listed : {m held exit : List ℕ} {said : Answer} (n : ℕ) → Showed m held said exit → n ≡ answerNumber said → Listed m held n exit
+listed n s e = record { number-is = e ∙ ap answerNumber (s .answer) ∙ back _; list = s .list }
+  where
+    back : (n : ℕ) → answerNumber (addAnswer n) ≡ n
+    back zero = refl
+    back (suc n) = refl

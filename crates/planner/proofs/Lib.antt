@@ -1,0 +1,4 @@
+pub mod Displayed
+pub mod Outcomes
+pub mod Steps
+pub mod View

@@ -1,0 +1,116 @@
+-- What a call answers and leaves, by the tests that the code makes. Assumes nothing.
+use mathlib.Core.Path.{_≡_, refl, sym, ap, _∙_}
+use mathlib.Core.Bool.{Bool, true, false}
+use mathlib.Core.List.{List}
+use Prim.Native.Nat.{ℕ, zero, suc, _+_, _≤_, _<_}
+use borrow.Author.Tests.{le-leb, lt-leb, eq-eqb, ne-eqb}
+use native.Mathlib.Omega.{arith}
+use lib.Dec.{lit<, leb, eqb}
+use lib.ListN.{length}
+use Rattle.machine.specs.Checks.{refusalNumber, limitsRefusal, blockRefusal, pick}
+use Rattle.machine.specs.declared.Block.{Block}
+use Rattle.machine.specs.declared.Limits.{Limits}
+use Rattle.machine.specs.declared.Refusal.{Refusal}
+use Rattle.machine.specs.declared.Refusal.the-variants as why
+use Rattle.line.specs.declared.Given.{Given}
+use Rattle.line.specs.Answers.{Answer, accepted, gave, refused}
+use Rattle.line.specs.Blocks.{mostHeld, add, take, orElse, addRefusal, addAnswer}
+use Rattle.line.specs.Ring.{Ring, putLast, addedIn, givenIn, takenFrom, takenAnswer, takenIn, ringAnswer, ringAfter, toldOf, shownIn, showRefusal}
+use Rattle.planner.specs.View.{memorySize, viewOf}
+use Rattle.planner.specs.Calls.{Memory, GaveFirst, Called, Freshened, freshIn, Showed, shownList}
+
+-- Every refusal has a number above 0.
+pub refusal-above : (r : Refusal) → 0 < refusalNumber r
+refusal-above why.Limits = lit< tt
+refusal-above why.Still = lit< tt
+refusal-above why.Long = lit< tt
+refusal-above why.Feed = lit< tt
+refusal-above why.Radius = lit< tt
+refusal-above why.Mark = lit< tt
+refusal-above why.Full = lit< tt
+refusal-above why.Empty = lit< tt
+refusal-above why.Ragged = lit< tt
+refusal-above why.Many = lit< tt
+refusal-above why.List = lit< tt
+
+module _ (m : List ℕ) (sized : length m ≡ memorySize) (l : Limits) where
+  -- Limits refused,
+  pub fresh-refused : (n : ℕ) → 0 < n → n ≡ limitsRefusal l → Freshened m l n m
+  fresh-refused n h e = record { sized = sized; answer = e; after = unchanged n h ∙ ap (λ (k : ℕ). freshIn k (viewOf m) l) e }
+    where
+      unchanged : (n : ℕ) → 0 < n → viewOf m ≡ freshIn n (viewOf m) l
+      unchanged zero h = absurd (omega arith)
+      unchanged (suc n) h = refl
+
+  -- and accepted.
+  pub fresh-made : (m′ : List ℕ) → length m′ ≡ memorySize → 0 ≡ limitsRefusal l → viewOf m′ ≡ freshIn 0 (viewOf m) l → Freshened m l 0 m′
+  fresh-made m′ s e v = record { sized = s; answer = e; after = v ∙ ap (λ (k : ℕ). freshIn k (viewOf m) l) e }
+
+-- An add that is refused by a number changes nothing.
+refused-by : (m : List ℕ) (b : Block) (n : ℕ) → length m ≡ memorySize → 0 < n → n ≡ addRefusal (viewOf m .count) b → Called m (add b) (refused n) m
+unfolding ringAnswer ringAfter
+refused-by m b n sized h e =
+    record { sized = sized; answer = answered n h ∙ ap addAnswer e; after = unchanged n h ∙ ap (λ (k : ℕ). addedIn k (viewOf m) b) e }
+  where
+    answered : (n : ℕ) → 0 < n → refused n ≡ addAnswer n
+    answered zero h = absurd (omega arith)
+    answered (suc n) h = refl
+    unchanged : (n : ℕ) → 0 < n → viewOf m ≡ addedIn n (viewOf m) b
+    unchanged zero h = absurd (omega arith)
+    unchanged (suc n) h = refl
+
+module _ (m : List ℕ) (b : Block) (sized : length m ≡ memorySize) where
+  -- The block is refused,
+  pub add-refused : (n : ℕ) → 0 < n → n ≡ blockRefusal b → Called m (add b) (refused n) m
+  add-refused n h e = refused-by m b n sized h (first n _ h ∙ ap (λ (k : ℕ). orElse k (pick (leb mostHeld (viewOf m .count)) 7 0)) e)
+    where
+      first : (n k : ℕ) → 0 < n → n ≡ orElse n k
+      first zero k h = absurd (omega arith)
+      first (suc n) k h = refl
+
+  -- all places are taken,
+  pub add-full : 0 ≡ blockRefusal b → mostHeld ≤ viewOf m .count → Called m (add b) (refused 7) m
+  add-full e full = refused-by m b 7 sized (lit< tt) (sym (λ i. orElse (sym e i) (pick (le-leb mostHeld (viewOf m .count) full i) 7 0)))
+
+  -- or the block is put last.
+  pub add-put : (m′ : List ℕ) → 0 ≡ blockRefusal b → viewOf m .count < mostHeld → Memory (putLast (viewOf m) b) m′ → Called m (add b) accepted m′
+  unfolding ringAnswer ringAfter
+  add-put m′ e room held =
+      let none = sym (ap (λ (k : ℕ). orElse k (pick (leb mostHeld (viewOf m .count)) 7 0)) (sym e) ∙ ap (λ (t : Bool). pick t 7 0) (lt-leb mostHeld (viewOf m .count) room)) in
+      record { sized = held .sized; answer = ap addAnswer none; after = held .view ∙ ap (λ (k : ℕ). addedIn k (viewOf m) b) none }
+
+module _ (m : List ℕ) where
+  -- A take of none,
+  pub take-refused : length m ≡ memorySize → viewOf m .count ≡ 0 → Called m take (refused 8) m
+  unfolding ringAnswer ringAfter
+  take-refused sized e =
+      record { sized = sized; answer = ap (λ (k : ℕ). takenAnswer k (viewOf m)) (sym e); after = ap (λ (k : ℕ). takenIn k (viewOf m)) (sym e) }
+
+  -- and of the first block.
+  pub take-gave : (given : Given) (m′ : List ℕ) → 0 < viewOf m .count → GaveFirst m given m′ → Called m take (gave given) m′
+  unfolding ringAnswer ringAfter
+  take-gave given m′ h g =
+      record { sized = g .held .sized; answer = ap gave (g .given) ∙ answered (viewOf m .count) h; after = g .held .view ∙ left (viewOf m .count) h }
+    where
+      answered : (n : ℕ) → 0 < n → gave (givenIn (viewOf m)) ≡ takenAnswer n (viewOf m)
+      answered zero h = absurd (omega arith)
+      answered (suc n) h = refl
+      left : (n : ℕ) → 0 < n → takenFrom (viewOf m) ≡ takenIn n (viewOf m)
+      left zero h = absurd (omega arith)
+      left (suc n) h = refl
+
+-- A list of the right length gets the plan; any other stays as it is.
+module _ (m held : List ℕ) where
+  right-length : length held ≡ toldOf (viewOf m) + 1 → showRefusal (viewOf m) (length held) ≡ 0
+  right-length e = ap (λ (t : Bool). pick t 0 11) (eq-eqb _ _ e)
+
+  wrong-length : (length held ≡ toldOf (viewOf m) + 1 → ⊥) → showRefusal (viewOf m) (length held) ≡ 11
+  wrong-length e = ap (λ (t : Bool). pick t 0 11) (ne-eqb _ _ e)
+
+  pub shown-all : (exit : List ℕ) → length held ≡ toldOf (viewOf m) + 1 → exit ≡ shownIn (viewOf m) → Showed m held accepted exit
+  shown-all exit e s =
+      record { answer = ap addAnswer (sym (right-length e)); list = s ∙ ap (λ (k : ℕ). shownList k (viewOf m) held) (sym (right-length e)) }
+
+  pub shown-none : (length held ≡ toldOf (viewOf m) + 1 → ⊥) → Showed m held (refused 11) held
+  shown-none e =
+      record { answer = ap addAnswer (sym (wrong-length e)); list = ap (λ (k : ℕ). shownList k (viewOf m) held) (sym (wrong-length e)) }

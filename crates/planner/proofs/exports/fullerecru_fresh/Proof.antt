@@ -1,0 +1,42 @@
+use mathlib.Core.Path.{_≡_, ap, _∙_}
+use Rattle.machine.specs.Checks.{limitsRefusal}
+use Rattle.machine.specs.declared.Limits.{Limits}
+use Rattle.planner.specs.Calls.{freshIn}
+use Rattle.planner.specs.View.{viewOf}
+use borrow.Author.Needs.{needs}
+use Rattle.planner.proofs.exports.fullerecru_fresh.Statement.{statement}
+use Rattle.planner.proofs.exports.fullerecru_fresh.Tie as tie
+use Rattle.planner.proofs.exports.fullerecru_fresh.Reads as reads
+use Rattle.planner.proofs.exports.fullerecru_fresh.Lts as lts
+use Rattle.planner.proofs.exports.checked_number.Reads as checked-number-reads
+use Rattle.planner.proofs.exports.limits_of.Reads as limits-of-reads
+use Rattle.planner.proofs.fresh.Reads as fresh-reads
+
+-- src/exports.rt:131:34
+limits-of-requires : tie.Need-limits-of-requires
+limits-of-requires c κs = search needs
+
+-- src/exports.rt:131:20
+fresh-requires : tie.Need-fresh-requires
+fresh-requires c κs = search needs
+
+-- src/exports.rt:131:5
+checked-number-requires : tie.Need-checked-number-requires
+checked-number-requires c κs = search needs
+
+-- src/exports.rt:127:1
+returns : tie.Need-returns
+returns c =
+    let f = c .before in
+    let l = f .before in
+    let m = l .before .before .before .args .memory .now in
+    let e = f .fresh .ensures in
+    record {
+      sized = e .sized;
+      answer = c .checked-number .ensures ∙ e .answer ∙ ap limitsRefusal (l .limits-of .ensures);
+      after = e .after ∙ ap (λ (x : Limits). freshIn (limitsRefusal x) (viewOf m) x) (l .limits-of .ensures);
+    }
+
+pub fullerecru-fresh-spec : {M : Type 1} → statement M
+fullerecru-fresh-spec =
+    tie.close (tie.spec limits-of-requires fresh-requires checked-number-requires returns)

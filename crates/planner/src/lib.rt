@@ -1,0 +1,140 @@
+// A planner of at most 64 blocks in 780 numbers that the caller lends. Every content of the memory
+// is answered: nothing is required of it. What the calls answer and leave is in specs/Calls.antt.
+ghost use mathlib.Core.Path.{_≡_};
+ghost use lib.ListN.{replicate};
+ghost use Rattle.machine.specs.Checks.{checkedNumber};
+ghost use Rattle.line.specs.Answers.{addMeans, showMeans, takeMeans};
+ghost use Rattle.line.specs.Blocks as blocks;
+ghost use Rattle.line.specs.Ring.{toldOf};
+ghost use Rattle.planner.specs.Calls.{Called, Freshened, Showed};
+ghost use Rattle.planner.specs.View.{memorySize, viewOf};
+use line::AddAnswer;
+use line::ShowAnswer;
+use line::TakeAnswer;
+use machine::Block;
+use machine::Checked;
+use machine::Limits;
+
+pub mod exports;
+mod memory;
+mod ring;
+
+// Numbers of a planner's memory.
+pub const NUMBERS: usize = 780;
+
+// Makes a fresh planner of the limits; its places hold whatever they held. Refusal 1 changes
+// nothing.
+pub fn fresh(memory: &mut [u64; NUMBERS], l: Limits) -> Checked
+    ensures { λ r. ⌜ Freshened (now (memory .entry)) l (checkedNumber r) (now (memory .exit)) ⌝ }
+{
+    ring::fresh_in(memory, l)
+}
+
+// Adds a block behind those held. The first of refusals 2 to 7 that it meets changes nothing.
+pub fn add(memory: &mut [u64; NUMBERS], b: Block) -> AddAnswer
+    ensures { λ r. ⌜ Called (now (memory .entry)) (blocks.add b) (addMeans r) (now (memory .exit)) ⌝ }
+{
+    ring::add_in(memory, b)
+}
+
+// Gives out the first block held with its speeds and its ramp. Refusal 8 changes nothing.
+pub fn take(memory: &mut [u64; NUMBERS]) -> TakeAnswer
+    ensures { λ r. ⌜ Called (now (memory .entry)) blocks.take (takeMeans r) (now (memory .exit)) ⌝ }
+{
+    ring::take_in(memory)
+}
+
+// How many blocks are held.
+pub fn told(memory: &[u64; NUMBERS]) -> u64
+    ensures { λ r. ⌜ r ≡ toldOf (viewOf (now (memory .entry))) ⌝ }
+{
+    ring::told_in(memory)
+}
+
+// Shows the plan, (µm/s)² at each junction, in a list of one number more than blocks are held.
+// Refusal 11 changes nothing.
+pub fn shown(memory: &[u64; NUMBERS], list: &mut [u64]) -> ShowAnswer
+    ensures { λ r. ⌜ Showed (now (memory .entry)) (now (list .entry)) (showMeans r) (now (list .exit)) ⌝ }
+{
+    ring::show_in(memory, list)
+}
+
+// A planner by value: the same calls on numbers of its own.
+pub struct Planner {
+    numbers: [u64; NUMBERS],
+}
+
+// The answer and the planner after it, of the limits, of an add and of a take. The planner of
+// refused limits is 780 zeros: it holds nothing, and is not to be used.
+pub struct Made {
+    pub answer: Checked,
+    pub planner: Planner,
+}
+
+pub struct AddedPlanner {
+    pub answer: AddAnswer,
+    pub planner: Planner,
+}
+
+pub struct TakenPlanner {
+    pub answer: TakeAnswer,
+    pub planner: Planner,
+}
+
+impl Planner {
+    // Blocks that are held at most.
+    pub const PLACES: u64 = memory::PLACES;
+    // Ranges of the limits; each begins at 1, but for the tick. Accelerations, µm/s².
+    pub const MOST_ACCEL: u64 = machine::check::MOST_ACCEL;
+    // Speeds and corner jump, µm/s.
+    pub const MOST_SPEED: u64 = machine::check::MOST_SPEED;
+    pub const MOST_JUMP: u64 = machine::check::MOST_JUMP;
+    // Chord tolerance, µm.
+    pub const MOST_CHORD: u64 = machine::check::MOST_CHORD;
+    // Tick, microseconds.
+    pub const LEAST_TICK: u64 = machine::check::LEAST_TICK;
+    pub const MOST_TICK: u64 = machine::check::MOST_TICK;
+
+    pub fn fresh(l: Limits) -> Made
+        ensures { λ r. ⌜ Freshened (replicate memorySize 0) l (checkedNumber (r .answer)) (r .planner .numbers) ⌝ }
+    {
+        let mut numbers = [0u64; NUMBERS];
+        let answer = fresh(&mut numbers, l);
+        Made {
+            answer: answer,
+            planner: Planner { numbers: numbers },
+        }
+    }
+
+    pub fn add(mut self, b: Block) -> AddedPlanner
+        ensures { λ r. ⌜ Called (self .numbers) (blocks.add b) (addMeans (r .answer)) (r .planner .numbers) ⌝ }
+    {
+        let answer = add(&mut self.numbers, b);
+        AddedPlanner {
+            answer: answer,
+            planner: self,
+        }
+    }
+
+    pub fn take(mut self) -> TakenPlanner
+        ensures { λ r. ⌜ Called (self .numbers) blocks.take (takeMeans (r .answer)) (r .planner .numbers) ⌝ }
+    {
+        let answer = take(&mut self.numbers);
+        TakenPlanner {
+            answer: answer,
+            planner: self,
+        }
+    }
+
+    pub fn told(self) -> u64
+        ensures { λ r. ⌜ r ≡ toldOf (viewOf (self .numbers)) ⌝ }
+    {
+        told(&self.numbers)
+    }
+
+    pub fn shown(self, list: &mut [u64]) -> ShowAnswer
+        ensures { λ r. ⌜ Showed (self .numbers) (now (list .entry)) (showMeans r) (now (list .exit)) ⌝ }
+    {
+        shown(&self.numbers, list)
+    }
+}

@@ -1,0 +1,200 @@
+// The calls of a planner on the numbers of its memory. A pass over the blocks held is one loop, and
+// a take has none.
+ghost use mathlib.Core.Path.{_≡_};
+ghost use Prim.Native.Nat.{_+_, _^_, _-_, _≤_, _<_};
+ghost use lib.Dec.{eqb};
+ghost use lib.ListN.{length};
+ghost use Rattle.machine.specs.Checks.{blockRefusal, checkedNumber, movesOf, pick};
+ghost use Rattle.machine.specs.Numbers.{AxesBelow, LimitsBelow};
+ghost use Rattle.line.specs.Answers.{addMeans, showMeans, takeMeans};
+ghost use Rattle.line.specs.Blocks.{add, take};
+ghost use Rattle.line.specs.Ring.{junctionAfter, placeAt, putLast, speedsFrom, toldOf, walkBack};
+ghost use Rattle.planner.specs.Calls.{Called, Freshened, GaveFirst, Memory, Showed};
+ghost use Rattle.planner.specs.View.{memorySize, viewOf};
+use crate::memory::CAP;
+use crate::memory::COMMITTED;
+use crate::memory::COUNT;
+use crate::memory::FIRST;
+use crate::memory::LENGTH;
+use crate::memory::LIMIT;
+use crate::memory::PLACES;
+use crate::memory::block_in;
+use crate::memory::brake_at;
+use crate::memory::exit_at;
+use crate::memory::limits_in;
+use crate::memory::numbers_in;
+use crate::memory::place;
+use crate::memory::store_fresh;
+use crate::memory::store_place;
+use arith::whole::smaller;
+use line::AddAnswer;
+use line::Given;
+use line::ShowAnswer;
+use line::TakeAnswer;
+use machine::Block;
+use machine::Checked;
+use machine::Limits;
+use machine::Numbers;
+use machine::Refusal;
+use machine::check::check_block;
+use machine::check::check_limits;
+use machine::corner::under_corner;
+use machine::measure::numbers;
+use machine::ramps::ramp_between;
+
+// Lengths of held blocks are used below this, µm.
+const LENGTH_END: u64 = 0x4000_0000;
+
+// The cap of the junction between the last block held and a new one, (µm/s)²; 0 where none is held.
+fn new_junction(memory: &[u64], l: Limits, b: Block, n: Numbers) -> u64
+    requires { ⌜ (length (now memory) ≡ memorySize) × (l .jump < 2 ^ 32) × (n .length < 2 ^ 30) × AxesBelow (2 ^ 21) (movesOf b) ⌝ }
+    ensures { λ r. ⌜ r ≡ pick (eqb (viewOf (now (memory .entry)) .count) 0) 0 (junctionAfter l (placeAt (viewOf (now (memory .entry))) (viewOf (now (memory .entry)) .count - 1)) b n) ⌝ }
+{
+    let count = memory[COUNT];
+    if count == 0 {
+        return 0;
+    }
+    let at = place(memory[FIRST], count - 1);
+    let cap = smaller(memory[at + CAP], n.cap);
+    let before = block_in(memory, at);
+    let length = memory[at + LENGTH] % LENGTH_END;
+    under_corner(cap, l.jump, before, length, b, n.length)
+}
+
+// The walk back from block `count`: each block before it gets its limit anew, until one has it already.
+fn walk_back(memory: &mut [u64], count: u64)
+    requires { ⌜ length (now memory) ≡ memorySize ⌝ }
+    ensures { λ r. ⌜ Memory (walkBack count (viewOf (now (memory .entry)))) (now (memory .exit)) ⌝ }
+{
+    let first = memory[FIRST];
+    let mut k = count;
+    while 0 < k {
+        let limit = brake_at(memory, place(first, k));
+        k -= 1;
+        let at = place(first, k);
+        if memory[at + LIMIT] == limit {
+            return;
+        }
+        memory[at + LIMIT] = limit;
+    }
+}
+
+// Puts a block that passes 2 to 6 behind those held, of which there are less than 64.
+fn put_last(memory: &mut [u64], b: Block)
+    requires { ⌜ (length (now memory) ≡ memorySize) × (blockRefusal b ≡ 0) × (viewOf (now memory) .count < 64) ⌝ }
+    ensures { λ r. ⌜ Memory (putLast (viewOf (now (memory .entry))) b) (now (memory .exit)) ⌝ }
+{
+    let l = limits_in(memory);
+    let n = numbers(l, b);
+    let junction = new_junction(memory, l, b, n);
+    let count = memory[COUNT];
+    let at = place(memory[FIRST], count);
+    store_place(memory, at, b, n, junction);
+    memory[COUNT] = count + 1;
+    walk_back(memory, count);
+}
+
+// Adds a block, or refuses it by the first of 2 to 7.
+pub fn add_in(memory: &mut [u64], b: Block) -> AddAnswer
+    requires { ⌜ length (now memory) ≡ memorySize ⌝ }
+    ensures { λ r. ⌜ Called (now (memory .entry)) (add b) (addMeans r) (now (memory .exit)) ⌝ }
+{
+    match check_block(b) {
+        Checked::Refused(r) => AddAnswer::Refused(r),
+        Checked::Passed => {
+            if PLACES <= memory[COUNT] {
+                return AddAnswer::Refused(Refusal::Full);
+            }
+            put_last(memory, b);
+            AddAnswer::Added
+        }
+    }
+}
+
+// Gives out the first block of those held, of which there is one.
+fn give_first(memory: &mut [u64]) -> Given
+    requires { ⌜ (length (now memory) ≡ memorySize) × (0 < viewOf (now memory) .count) ⌝ }
+    ensures { λ r. ⌜ GaveFirst (now (memory .entry)) r (now (memory .exit)) ⌝ }
+{
+    let first = memory[FIRST];
+    let count = memory[COUNT];
+    let entry = memory[COMMITTED];
+    let at = place(first, 0);
+    let n = numbers_in(memory, at);
+    let exit = exit_at(memory, at, entry);
+    let ramp = ramp_between(n, entry, exit);
+    let block = block_in(memory, at);
+    memory[FIRST] = (first % PLACES + 1) % PLACES;
+    memory[COUNT] = count - 1;
+    memory[COMMITTED] = exit;
+    Given {
+        block: block,
+        length: n.length,
+        accel: n.accel,
+        entry: entry,
+        exit: exit,
+        ramp: ramp,
+    }
+}
+
+// Takes the first block, or refuses by 8.
+pub fn take_in(memory: &mut [u64]) -> TakeAnswer
+    requires { ⌜ length (now memory) ≡ memorySize ⌝ }
+    ensures { λ r. ⌜ Called (now (memory .entry)) take (takeMeans r) (now (memory .exit)) ⌝ }
+{
+    if memory[COUNT] == 0 {
+        return TakeAnswer::Refused(Refusal::Empty);
+    }
+    TakeAnswer::Given(give_first(memory))
+}
+
+// How many blocks are held.
+pub fn told_in(memory: &[u64]) -> u64
+    requires { ⌜ length (now memory) ≡ memorySize ⌝ }
+    ensures { λ r. ⌜ r ≡ toldOf (viewOf (now (memory .entry))) ⌝ }
+{
+    smaller(memory[COUNT], PLACES)
+}
+
+// The plan of n blocks, n + 1 squared speeds, (µm/s)².
+fn show(memory: &[u64], list: &mut [u64], n: usize)
+    requires { ⌜ (length (now memory) ≡ memorySize) × (length (now list) ≡ n + 1) ⌝ }
+    ensures { λ r. ⌜ now (list .exit) ≡ speedsFrom (viewOf (now (memory .entry))) n 0 (viewOf (now (memory .entry)) .committed) ⌝ }
+{
+    let first = memory[FIRST];
+    let mut entry = memory[COMMITTED];
+    let mut k: usize = 0;
+    while k < n {
+        list[k] = entry;
+        entry = exit_at(memory, place(first, k as u64), entry);
+        k += 1;
+    }
+    list[n] = entry;
+}
+
+// Shows the plan in a list of one number more than blocks are held, or refuses by 11.
+pub fn show_in(memory: &[u64], list: &mut [u64]) -> ShowAnswer
+    requires { ⌜ length (now memory) ≡ memorySize ⌝ }
+    ensures { λ r. ⌜ Showed (now (memory .entry)) (now (list .entry)) (showMeans r) (now (list .exit)) ⌝ }
+{
+    let n = told_in(memory) as usize;
+    if list.len() == n + 1 {
+        show(memory, list, n);
+        return ShowAnswer::Shown;
+    }
+    ShowAnswer::Refused(Refusal::List)
+}
+
+// Makes a fresh planner of the limits, or refuses them by 1.
+pub fn fresh_in(memory: &mut [u64], l: Limits) -> Checked
+    requires { ⌜ length (now memory) ≡ memorySize ⌝ }
+    ensures { λ r. ⌜ Freshened (now (memory .entry)) l (checkedNumber r) (now (memory .exit)) ⌝ }
+{
+    match check_limits(l) {
+        Checked::Refused(r) => Checked::Refused(r),
+        Checked::Passed => {
+            store_fresh(memory, l);
+            Checked::Passed
+        }
+    }
+}
