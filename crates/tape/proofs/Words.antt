@@ -16,7 +16,7 @@ use Rattle.fields.proofs.Fields.{split-part}
 use Rattle.fields.proofs.Signed.{signed-mod}
 use Rattle.machine.specs.declared.Limits.{Limits}
 use Rattle.machine.specs.declared.Block.{Block}
-use Rattle.tape.specs.Tape.{limitsLayout, limitsNumber, limitsValues, limitsAt, zeroBits, moveBits, recordLayout, blockNumber, recordValues, blockAt}
+use Rattle.tape.specs.Tape.{limitsLayout, limitsNumber, limitsValues, moveBits, recordLayout, blockNumber, recordValues, blockAt}
 
 -- The fields of a record, from its two words.
 module _ (s : List ℕ) {first second : ℕ} (e : first ≡ numberOf (take 8 s)) (f : second ≡ numberOf (take 8 (drop 8 s))) (l : 16 ≤ length s) (h : second < 2 ^ 64) where
@@ -62,37 +62,15 @@ pub words-of-block : (b : Block) {x y z first second : ℕ} → x ≡ bitsOf mov
 unfolding blockNumber joined
 words-of-block b {x} {y} {z} {first} {second} p q r e f =
     sym (
-      joined-cut (21 ∷ 21 ∷ 21 ∷ []) (24 ∷ 21 ∷ []) (bitsOf moveBits (b .x) ∷ bitsOf moveBits (b .y) ∷ bitsOf moveBits (b .z) ∷ [])
-        (b .radius ∷ b .mark ∷ []) 1 19 (b .feed) refl
-      ∙ omega arith
+    joined-cut (21 ∷ 21 ∷ 21 ∷ []) (24 ∷ 21 ∷ []) (bitsOf moveBits (b .x) ∷ bitsOf moveBits (b .y) ∷ bitsOf moveBits (b .z) ∷ [])
+    (b .radius ∷ b .mark ∷ []) 1 19 (b .feed) refl
+    ∙ omega arith
     )
 
--- The fields of the limits, by their first bits and widths.
-module _ {s : List ℕ} (h : Bytes s) (l : 24 ≤ length s) where
-  field-of : (i : ℕ) → fieldOf s (0 + total (take i limitsLayout)) (getD limitsLayout i 0) ≡ getD (limitsValues s) i 0
-  field-of i = sym (split-part h 0 24 limitsLayout i l refl)
-
-  -- The limits that they say, and the zero bits.
-  pub limits-of-fields :
-      _≡_ {A = Limits} record {
-        accel = record { x = fieldOf s 0 25; y = fieldOf s 25 25; z = fieldOf s 50 25 };
-        speed = record { x = fieldOf s 75 20; y = fieldOf s 95 20; z = fieldOf s 115 20 };
-        jump = fieldOf s 135 20;
-        chord = fieldOf s 155 10;
-        tick = fieldOf s 165 14;
-      } (limitsAt s)
-  unfolding limitsAt
-  limits-of-fields = λ i. record {
-    accel = record { x = field-of 0 i; y = field-of 1 i; z = field-of 2 i };
-    speed = record { x = field-of 3 i; y = field-of 4 i; z = field-of 5 i };
-    jump = field-of 6 i;
-    chord = field-of 7 i;
-    tick = field-of 8 i;
-  }
-
-  pub zeros-of-field : fieldOf s 179 13 ≡ zeroBits s
-  unfolding zeroBits
-  zeros-of-field = field-of 9
+-- The fields of the limits: each begins where the widths before it end.
+pub limits-field : {s : List ℕ} → Bytes s → 24 ≤ length s → (i : ℕ)
+    → fieldOf s (0 + total (take i limitsLayout)) (getD limitsLayout i 0) ≡ getD (limitsValues s) i 0
+limits-field h l i = sym (split-part h 0 24 limitsLayout i l refl)
 
 -- The three words of the limits' number: acceleration Z and speed Z are cut between them.
 pub words-of-limits : (l : Limits) {first second third : ℕ}

@@ -49,11 +49,11 @@ returns c =
     let b = a .args .b in
     with-next _ 0 8 8 _ _ (v .write-word .ensures) (w .write-word2 .ensures) (omega (arith, a .pre .0)) (second .second-word .ensures .small)
     ∙ ap (withBytes (a .args .out .now) 0 16)
-        (words-of-block b
-            (x .to-bits .ensures .is ∙ ap (bitsOf moveBits) (toZ-ofZ {w = w64} {z = b .x} (record { sfits = x .before .struct-told .given .0 .1 })))
-            (y .to-bits2 .ensures .is ∙ ap (bitsOf moveBits) (toZ-ofZ {w = w64} {z = b .y} (record { sfits = y .before .struct-told2 .given .1 .0 .1 })))
-            (z .to-bits3 .ensures .is ∙ ap (bitsOf moveBits) (toZ-ofZ {w = w64} {z = b .z} (record { sfits = z .before .struct-told3 .given .1 .1 .0 .1 })))
-            (first .first-word .ensures .is) (second .second-word .ensures .is))
+    (words-of-block b
+    (x .to-bits .ensures .is ∙ ap (bitsOf moveBits) (toZ-ofZ {w = w64} {z = b .x} (record { sfits = x .before .struct-told .given .0 .1 })))
+    (y .to-bits2 .ensures .is ∙ ap (bitsOf moveBits) (toZ-ofZ {w = w64} {z = b .y} (record { sfits = y .before .struct-told2 .given .1 .0 .1 })))
+    (z .to-bits3 .ensures .is ∙ ap (bitsOf moveBits) (toZ-ofZ {w = w64} {z = b .z} (record { sfits = z .before .struct-told3 .given .1 .1 .0 .1 })))
+    (first .first-word .ensures .is) (second .second-word .ensures .is))
 
 pub store-record-spec : {M : Type 1} → statement M
 store-record-spec =
