@@ -16,7 +16,7 @@ use machine::Limits;
 use machine::Refusal;
 use machine::check::check_limits;
 
-// The limits that the first 24 bytes say, whatever the zero bits are. Fields are named by their first bit and their width.
+// The limits that the first 24 bytes say, unchecked, whatever the zero bits are. A field is named by its first bit and its width.
 fn decode_limits(s: &[u8]) -> Limits
     requires { ⌜ limitsBytes ≤ length (now s) ⌝ }
     ensures { λ r. ⌜ r ≡ limitsAt (now (s .entry)) ⌝ }
