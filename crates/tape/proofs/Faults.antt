@@ -12,6 +12,7 @@ use Rattle.tape.specs.Tape.{blockAt, recordStart, recordAt, recordsIn, b
 use Rattle.tape.specs.Display.{Fault, _at_, _else_, faultFrom, headRefusal, tapeFault, tapeRefusal}
 use Rattle.tape.proofs.Answers.{at-zero, above-zero}
 
+-- Blocks from record j on: how many, and the one that k records later begins the rest.
 length-from : (s : List ℕ) (k n : ℕ) → length (blocksFrom s k n) ≡ n
 unfolding blocksFrom
 length-from s k zero = refl
@@ -55,30 +56,30 @@ module _ (s : List ℕ) where
   pub part-record : (k : ℕ) → blockAt (take (length s - recordStart k) (drop (recordStart k) s)) ≡ recordAt s k
   part-record k = ap blockAt (take-all (length s - recordStart k) (drop (recordStart k) s) (le-of-eq (length-drop (recordStart k) s)))
 
-  -- What the records' fault is once the first k of them have passed: that of the others.
-  abbrev pub Passed : ℕ → Type 0
-  Passed k = faultFrom 1 (tapeBlocks s) ≡ faultFrom (k + 1) (drop k (tapeBlocks s))
+  -- The records before record k have passed: the fault of all is that of the others.
+  abbrev pub PassedBefore : ℕ → Type 0
+  PassedBefore k = faultFrom 1 (tapeBlocks s) ≡ faultFrom (k + 1) (drop k (tapeBlocks s))
 
-  pub passed-none : Passed 0
+  pub passed-none : PassedBefore 0
   passed-none = refl
 
   -- Record k passes too.
-  pub passed-next : {k : ℕ} → Passed k → k < recordsIn s → blockRefusal (recordAt s k) ≡ 0 → Passed (k + 1)
+  pub passed-next : {k : ℕ} → PassedBefore k → k < recordsIn s → blockRefusal (recordAt s k) ≡ 0 → PassedBefore (k + 1)
   unfolding faultFrom
   passed-next {k} p h e =
       p ∙ ap (faultFrom (k + 1)) (drop-blocks h)
       ∙ at-zero (faultFrom (suc (k + 1)) (drop (k + 1) (tapeBlocks s))) (blockRefusal (recordAt s k) at (k + 1)) e
       ∙ ap (λ (p : ℕ). faultFrom p (drop (k + 1) (tapeBlocks s))) (sym (add-one (k + 1)))
 
-  -- Record k is at fault, and no record is.
-  pub fault-at : {k : ℕ} → Passed k → k < recordsIn s → 0 < blockRefusal (recordAt s k)
+  -- Record k is at fault; no record is.
+  pub fault-at : {k : ℕ} → PassedBefore k → k < recordsIn s → 0 < blockRefusal (recordAt s k)
       → faultFrom 1 (tapeBlocks s) ≡ blockRefusal (recordAt s k) at (k + 1)
   unfolding faultFrom
   fault-at {k} p h l =
       p ∙ ap (faultFrom (k + 1)) (drop-blocks h)
       ∙ above-zero (faultFrom (suc (k + 1)) (drop (k + 1) (tapeBlocks s))) (blockRefusal (recordAt s k) at (k + 1)) l
 
-  pub fault-none : {k : ℕ} → Passed k → recordsIn s ≤ k → faultFrom 1 (tapeBlocks s) ≡ 0 at 0
+  pub fault-none : {k : ℕ} → PassedBefore k → recordsIn s ≤ k → faultFrom 1 (tapeBlocks s) ≡ 0 at 0
   unfolding faultFrom
   fault-none {k} p h =
       p ∙ ap (faultFrom (k + 1)) (drop-of-length-le (tapeBlocks s) {i = k} (rw length-blocks h))
@@ -93,10 +94,10 @@ module _ (s : List ℕ) where
   fault-head h = above-zero (faultFrom 1 (tapeBlocks s)) (headRefusal s at 0) h
 
   -- By the records themselves: all before k pass, k is at fault, or all pass.
-  passed-to : (k : ℕ) → k ≤ recordsIn s → ((j : ℕ) → j < k → blockRefusal (recordAt s j) ≡ 0) → Passed k
+  passed-to : (k : ℕ) → k ≤ recordsIn s → ((j : ℕ) → j < k → blockRefusal (recordAt s j) ≡ 0) → PassedBefore k
   passed-to zero h all = passed-none
   passed-to (suc k) h all =
-      subst (λ (j : ℕ). Passed j) (add-one k)
+      subst (λ (j : ℕ). PassedBefore j) (add-one k)
       (passed-next {k = k} (passed-to k (omega arith) (λ j l. all j (omega arith))) (omega arith) (all k (omega arith)))
 
   pub tape-faulty : {k : ℕ} → headRefusal s ≡ 0 → k < recordsIn s → ((j : ℕ) → j < k → blockRefusal (recordAt s j) ≡ 0)

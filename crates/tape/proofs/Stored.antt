@@ -73,6 +73,16 @@ module _ {A : Type 0} (form : Form A) where
       by zero = rw (zero-add n) at (drop-with s 0 n (joined ws (form .fieldsOf a)) zero-le)
       by (suc r) = refl
 
+  -- No byte is added or lost.
+  pub length-same : (a : A) (s : List ℕ) → length (writing a s) ≡ length s
+  length-same a s = by (writeNumber a s) refl
+    where
+      by : (r : ℕ) → writeNumber a s ≡ r → length (byNumber r (stored a s) s) ≡ length s
+      by zero e =
+          let l = ltb-false (length s) n (not-picked (ltb (length s) n) (lit< tt) (then-zero (form .refusal a) e .1)) in
+          length-with s 0 n (joined ws (form .fieldsOf a)) (rw (zero-add n) l)
+      by (suc r) e = refl
+
   -- An accepted call stores the value.
   pub accepted : (a : A) (s : List ℕ) → form .refusal a ≡ 0 → n ≤ length s → writing a s ≡ stored a s
   accepted a s e l = at-zero (stored a s) s (then-second e (enough n s l))

@@ -20,7 +20,7 @@ use Rattle.tape.specs.Tape.{limitsBytes, limitsLayout, limitsFields, lim
 use Rattle.tape.specs.Display.{given, limitsFault, limitsReadRefusal, readLimits, recordReadRefusal, readRecord, limitsWriteRefusal, limitsWritten, recordWriteRefusal, recordWritten}
 use Rattle.tape.proofs.Checks.{no-fault}
 use Rattle.tape.proofs.Fits.{block-fits, moves-fit, limits-fit}
-use Rattle.tape.proofs.Stored.{Form, Lossless, refused-same, beyond-same, taken, passes, later, written-read, read-written}
+use Rattle.tape.proofs.Stored.{Form, Lossless, refused-same, beyond-same, length-same, taken, passes, later, written-read, read-written}
 
 -- A record: its block is whole in its fields, by two's complement of its moves.
 move-whole : (v : ℕ) → bitsOf moveBits (signedOf moveBits (v % 2 ^ moveBits)) ≡ v % 2 ^ moveBits
@@ -82,7 +82,7 @@ record-read-written = read-written record-form record-lossless
 pub record-rewritten : {s : List ℕ} {b : Block} → Bytes s → readRecord s ≡ given b → recordWritten b s ≡ s
 record-rewritten {s} h e = record-read-written h e s (record-taken s e .0) ∙ take-append-drop recordBytes s
 
--- On a refusal no byte changes, and bytes beyond the 16 never do.
+-- On a refusal no byte changes, bytes beyond the 16 never do, and none is added or lost.
 pub record-refused : (b : Block) (s : List ℕ) → 0 < recordWriteRefusal b s → recordWritten b s ≡ s
 unfolding recordWritten recordWriteRefusal blockNumber
 record-refused = refused-same record-form
@@ -90,6 +90,10 @@ record-refused = refused-same record-form
 pub record-beyond : (b : Block) (s : List ℕ) → drop recordBytes (recordWritten b s) ≡ drop recordBytes s
 unfolding recordWritten recordWriteRefusal blockNumber
 record-beyond = beyond-same record-form
+
+pub record-length : (b : Block) (s : List ℕ) → length (recordWritten b s) ≡ length s
+unfolding recordWritten recordWriteRefusal blockNumber
+record-length = length-same record-form
 
 -- Later bytes play no part in reading.
 pub record-later : (s t : List ℕ) → recordBytes ≤ length s → readRecord (s ++ t) ≡ readRecord s
@@ -144,7 +148,7 @@ limits-read-written = read-written limits-form limits-lossless
 pub limits-rewritten : {s : List ℕ} {l : Limits} → Bytes s → readLimits s ≡ given l → limitsWritten l s ≡ s
 limits-rewritten {s} h e = limits-read-written h e s (limits-taken s e .0) ∙ take-append-drop limitsBytes s
 
--- On a refusal no byte changes, and bytes beyond the 24 never do.
+-- On a refusal no byte changes, bytes beyond the 24 never do, and none is added or lost.
 pub limits-refused : (l : Limits) (s : List ℕ) → 0 < limitsWriteRefusal l s → limitsWritten l s ≡ s
 unfolding limitsWritten limitsWriteRefusal limitsNumber
 limits-refused = refused-same limits-form
@@ -152,6 +156,10 @@ limits-refused = refused-same limits-form
 pub limits-beyond : (l : Limits) (s : List ℕ) → drop limitsBytes (limitsWritten l s) ≡ drop limitsBytes s
 unfolding limitsWritten limitsWriteRefusal limitsNumber
 limits-beyond = beyond-same limits-form
+
+pub limits-length : (l : Limits) (s : List ℕ) → length (limitsWritten l s) ≡ length s
+unfolding limitsWritten limitsWriteRefusal limitsNumber
+limits-length = length-same limits-form
 
 -- Later bytes play no part in reading.
 pub limits-later : (s t : List ℕ) → limitsBytes ≤ length s → readLimits (s ++ t) ≡ readLimits s

@@ -8,7 +8,7 @@ use lib.Pow.{shr-lt}
 use Rattle.fields.specs.Layouts.{total, joined}
 use Rattle.fields.specs.Bytes.{Bytes, numberOf}
 use Rattle.fields.specs.Fields.{fieldOf, partOf}
-use Rattle.fields.specs.Signed.{signedOf}
+use Rattle.fields.specs.Signed.{signedOf, bitsOf}
 use Rattle.fields.proofs.Parts.{part-upper, part-lower, part-across}
 use Rattle.fields.proofs.Layouts.{joined-cut, split-at}
 use Rattle.fields.proofs.Bytes.{number-add}
@@ -16,82 +16,61 @@ use Rattle.fields.proofs.Fields.{split-part}
 use Rattle.fields.proofs.Signed.{signed-mod}
 use Rattle.machine.specs.declared.Limits.{Limits}
 use Rattle.machine.specs.declared.Block.{Block}
-use Rattle.tape.specs.Tape.{limitsLayout, limitsNumber, limitsValues, limitsAt, zeroBits, moveBits, recordLayout, recordValues, blockAt}
-
--- The feed of two words fits a word.
-pub feed-fits : (high low : ℕ) → low < 2 ^ 64 → high % 2 * 524288 + low / 35184372088832 < 2 ^ 64
-feed-fits high low h = omega (arith, shr-lt {n = low} 19 45 h)
+use Rattle.tape.specs.Tape.{limitsLayout, limitsNumber, limitsValues, moveBits, recordLayout, blockNumber, recordValues, blockAt}
 
 -- The fields of a record, from its two words.
-module _ (s : List ℕ) {high low : ℕ} (e : high ≡ numberOf (take 8 s)) (f : low ≡ numberOf (take 8 (drop 8 s))) (l : 16 ≤ length s) (h : low < 2 ^ 64) where
-  value : (i : ℕ) → getD (recordValues s) i 0 ≡ partOf (high * 2 ^ 64 + low) (total (drop (suc i) recordLayout)) (getD recordLayout i 0)
+module _ (s : List ℕ) {first second : ℕ} (e : first ≡ numberOf (take 8 s)) (f : second ≡ numberOf (take 8 (drop 8 s))) (l : 16 ≤ length s) (h : second < 2 ^ 64) where
+  value : (i : ℕ) → getD (recordValues s) i 0 ≡ partOf (first * 2 ^ 64 + second) (total (drop (suc i) recordLayout)) (getD recordLayout i 0)
   value i =
       split-at recordLayout (numberOf (take 16 s)) i
       ∙ ap (λ (n : ℕ). partOf n (total (drop (suc i) recordLayout)) (getD recordLayout i 0)) (sym (number-add s 0 8 8 e f l))
 
-  move : (i k : ℕ) → getD (recordValues s) i 0 ≡ high / 2 ^ k % 2 ^ moveBits → signedOf moveBits (high / 2 ^ k) ≡ signedOf moveBits (getD (recordValues s) i 0)
-  move i k p = sym (ap (signedOf moveBits) p ∙ signed-mod moveBits (high / 2 ^ k))
+  move : (i k : ℕ) → getD (recordValues s) i 0 ≡ first / 2 ^ k % 2 ^ moveBits → signedOf moveBits (first / 2 ^ k) ≡ signedOf moveBits (getD (recordValues s) i 0)
+  move i k p = sym (ap (signedOf moveBits) p ∙ signed-mod moveBits (first / 2 ^ k))
 
-  feed-is : high % 2 * 524288 + low / 35184372088832 ≡ getD (recordValues s) 3 0
-  feed-is = sym (value 3 ∙ part-across high low 45 1 19 h ∙ omega (arith, shr-lt {n = low} 19 45 h))
+  feed-is : first % 2 * 2 ^ 19 + second / 2 ^ 45 ≡ getD (recordValues s) 3 0
+  feed-is = sym (value 3 ∙ part-across first second 45 1 19 h ∙ omega (arith, shr-lt {n = second} 19 45 h))
 
-  mark-is : low % 2097152 ≡ getD (recordValues s) 5 0
-  mark-is = sym (value 5 ∙ part-lower high low 0 21 {t = 64} (omega arith) ∙ omega arith)
+  mark-is : second % 2 ^ 21 ≡ getD (recordValues s) 5 0
+  mark-is = sym (value 5 ∙ part-lower first second 0 21 {t = 64} (omega arith) ∙ omega arith)
 
   -- The block that they say.
   pub block-of-words :
       _≡_ {A = Block} record {
-        x = signedOf moveBits (high / 8796093022208);
-        y = signedOf moveBits (high / 4194304);
-        z = signedOf moveBits (high / 2);
-        feed = high % 2 * 524288 + low / 35184372088832;
-        radius = low / 2097152 % 16777216;
-        mark = low % 2097152;
+        x = signedOf moveBits (first / 2 ^ 43);
+        y = signedOf moveBits (first / 2 ^ 22);
+        z = signedOf moveBits (first / 2);
+        feed = first % 2 * 2 ^ 19 + second / 2 ^ 45;
+        radius = second / 2 ^ 21 % 2 ^ 24;
+        mark = second % 2 ^ 21;
       } (blockAt s)
   unfolding blockAt
   block-of-words = λ i. record {
-    x = move 0 43 (value 0 ∙ part-upper high low 64 43 21 h) i;
-    y = move 1 22 (value 1 ∙ part-upper high low 64 22 21 h) i;
-    z = move 2 1 (value 2 ∙ part-upper high low 64 1 21 h) i;
+    x = move 0 43 (value 0 ∙ part-upper first second 64 43 21 h) i;
+    y = move 1 22 (value 1 ∙ part-upper first second 64 22 21 h) i;
+    z = move 2 1 (value 2 ∙ part-upper first second 64 1 21 h) i;
     feed = feed-is i;
-    radius = sym (value 4 ∙ part-lower high low 21 24 {t = 64} (omega arith)) i;
+    radius = sym (value 4 ∙ part-lower first second 21 24 {t = 64} (omega arith)) i;
     mark = mark-is i;
   }
 
 -- The two words of a block's number: the feed is cut between them.
-pub words-of-block : (x y z feed radius mark : ℕ)
-    → (x * 8796093022208 + y * 4194304 + z * 2 + feed / 524288) * 2 ^ 64 + (feed % 524288 * 35184372088832 + radius * 2097152 + mark)
-    ≡ joined recordLayout (x ∷ y ∷ z ∷ feed ∷ radius ∷ mark ∷ [])
-unfolding joined
-words-of-block x y z feed radius mark =
-    sym (joined-cut (21 ∷ 21 ∷ 21 ∷ []) (24 ∷ 21 ∷ []) (x ∷ y ∷ z ∷ []) (radius ∷ mark ∷ []) 1 19 feed refl ∙ omega arith)
+pub words-of-block : (b : Block) {x y z first second : ℕ} → x ≡ bitsOf moveBits (b .x) → y ≡ bitsOf moveBits (b .y) → z ≡ bitsOf moveBits (b .z)
+    → first ≡ x * 2 ^ 43 + y * 2 ^ 22 + z * 2 + b .feed / 2 ^ 19
+    → second ≡ b .feed % 2 ^ 19 * 2 ^ 45 + b .radius * 2 ^ 21 + b .mark
+    → first * 2 ^ 64 + second ≡ blockNumber b
+unfolding blockNumber joined
+words-of-block b {x} {y} {z} {first} {second} p q r e f =
+    sym (
+    joined-cut (21 ∷ 21 ∷ 21 ∷ []) (24 ∷ 21 ∷ []) (bitsOf moveBits (b .x) ∷ bitsOf moveBits (b .y) ∷ bitsOf moveBits (b .z) ∷ [])
+    (b .radius ∷ b .mark ∷ []) 1 19 (b .feed) refl
+    ∙ omega arith
+    )
 
--- The fields of the limits, by their first bits and widths.
-module _ {s : List ℕ} (h : Bytes s) (l : 24 ≤ length s) where
-  field-of : (i : ℕ) → fieldOf s (0 + total (take i limitsLayout)) (getD limitsLayout i 0) ≡ getD (limitsValues s) i 0
-  field-of i = sym (split-part h 0 24 limitsLayout i l refl)
-
-  -- The limits that they say, and the zero bits.
-  pub limits-of-fields :
-      _≡_ {A = Limits} record {
-        accel = record { x = fieldOf s 0 25; y = fieldOf s 25 25; z = fieldOf s 50 25 };
-        speed = record { x = fieldOf s 75 20; y = fieldOf s 95 20; z = fieldOf s 115 20 };
-        jump = fieldOf s 135 20;
-        chord = fieldOf s 155 10;
-        tick = fieldOf s 165 14;
-      } (limitsAt s)
-  unfolding limitsAt
-  limits-of-fields = λ i. record {
-    accel = record { x = field-of 0 i; y = field-of 1 i; z = field-of 2 i };
-    speed = record { x = field-of 3 i; y = field-of 4 i; z = field-of 5 i };
-    jump = field-of 6 i;
-    chord = field-of 7 i;
-    tick = field-of 8 i;
-  }
-
-  pub zeros-of-field : fieldOf s 179 13 ≡ zeroBits s
-  unfolding zeroBits
-  zeros-of-field = field-of 9
+-- The fields of the limits: each begins where the widths before it end.
+pub limits-field : {s : List ℕ} → Bytes s → 24 ≤ length s → (i : ℕ)
+    → fieldOf s (0 + total (take i limitsLayout)) (getD limitsLayout i 0) ≡ getD (limitsValues s) i 0
+limits-field h l i = sym (split-part h 0 24 limitsLayout i l refl)
 
 -- The three words of the limits' number: acceleration Z and speed Z are cut between them.
 pub words-of-limits : (l : Limits) {first second third : ℕ}

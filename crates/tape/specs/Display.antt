@@ -18,12 +18,12 @@ use Rattle.tape.specs.declared.RecordRead.the-variants as rec
 use Rattle.tape.specs.declared.TapeCheck.{TapeCheck}
 use Rattle.tape.specs.declared.TapeCheck.the-variants as whole
 
--- what a call whose number on the display is n comes to: the first where it is 0, which says that nothing is refused, else the second
+-- the first of two where the number n on the display is 0, which says that nothing is refused, else the second
 abbrev pub byNumber : {A : Type 0} → (n : ℕ) → A → A → A
 byNumber zero a b = a
 byNumber (suc n) a b = b
 
--- "where several hold, it is the first": the first of two numbers that is not 0
+-- one check and then another: the first of their numbers that is not 0
 infixr 5 _then_
 abbrev pub _then_ : ℕ → ℕ → ℕ
 a then b = byNumber a b a
@@ -36,28 +36,28 @@ raggedBelow n s = pick (ltb (length s) n) 9 0
 unfoldable pub limitsFault : List ℕ → ℕ
 limitsFault s = pick (eqb (zeroBits s) 0) (limitsRefusal (limitsAt s)) 1
 
--- "Reading the limits or one record alone checks 9 first"
+-- reading limits, or a record, alone: 9, then what is wrong in the fields
 unfoldable pub limitsReadRefusal : List ℕ → ℕ
 limitsReadRefusal s = raggedBelow limitsBytes s then limitsFault s
 
 unfoldable pub recordReadRefusal : List ℕ → ℕ
 recordReadRefusal s = raggedBelow recordBytes s then blockRefusal (blockAt s)
 
--- "Writing checks the fields first, then 9"
+-- writing limits, or a record: what is wrong in the fields, then 9
 unfoldable pub limitsWriteRefusal : Limits → List ℕ → ℕ
 limitsWriteRefusal l s = limitsRefusal l then raggedBelow limitsBytes s
 
 unfoldable pub recordWriteRefusal : Block → List ℕ → ℕ
 recordWriteRefusal b s = blockRefusal b then raggedBelow recordBytes s
 
--- the lent bytes after writing: those named for it, or none where it is refused
+-- the lent bytes after writing: the first 24, or 16, are stored, and none where it is refused
 unfoldable pub limitsWritten : Limits → List ℕ → List ℕ
 limitsWritten l s = byNumber (limitsWriteRefusal l s) (withBytes s 0 limitsBytes (limitsNumber l)) s
 
 unfoldable pub recordWritten : Block → List ℕ → List ℕ
 recordWritten b s = byNumber (recordWriteRefusal b s) (withBytes s 0 recordBytes (blockNumber b)) s
 
--- a writer's number is n and leaves the bytes t
+-- a writer answers r, whose number is n, and leaves the lent bytes as t
 pub record Wrote (n : ℕ) (t : List ℕ) (r : Checked) (left : List ℕ) : Type 0 where
   pub number : checkedNumber r ≡ n
   pub bytes : left ≡ t
@@ -83,8 +83,7 @@ recordAnswer (rec.Refused why) = refused (refusalNumber why)
 unfoldable pub readRecord : List ℕ → Answer ℕ Block
 readRecord s = byNumber (recordReadRefusal s) (given (blockAt s)) (refused (recordReadRefusal s))
 
--- "A refusal returns its number, and from the whole tape the record's place counted from 1 (0 if no record is at fault)";
--- the number 0 says that nothing is refused
+-- a refusal of a whole tape: its number, where 0 says that nothing is refused, and the place from 1 of the record at fault, or 0
 pub record Fault : Type 0 where
   pub number : ℕ
   pub place : ℕ
@@ -98,7 +97,7 @@ infixr 5 _else_
 abbrev pub _else_ : Fault → Fault → Fault
 f else g = byNumber (f .number) g f
 
--- "each record in turn": the first fault of the blocks, of which the first has place p
+-- the records in turn: the first fault of these blocks, the first of which has place p
 unfoldable pub faultFrom : (p : ℕ) → List Block → Fault
 faultFrom p [] = 0 at 0
 faultFrom p (b ∷ rest) = blockRefusal b at p else faultFrom (suc p) rest
@@ -115,10 +114,11 @@ manyIn s = pick (ltb mostBytes (length s)) 10 0
 abbrev pub raggedIn : List ℕ → ℕ
 raggedIn s = pick (ltb (length s) limitsBytes || not (eqb ((length s - limitsBytes) % recordBytes) 0)) 9 0
 
--- "The whole tape checks 10, 9, 1, then each record in turn"
+-- a whole tape: 10, 9 and 1, which come before its records
 unfoldable pub headRefusal : List ℕ → ℕ
 headRefusal s = manyIn s then raggedIn s then limitsFault s
 
+-- and then the records in turn
 unfoldable pub tapeFault : List ℕ → Fault
 tapeFault s = headRefusal s at 0 else faultFrom 1 (tapeBlocks s)
 
@@ -129,19 +129,20 @@ tapeRefusal s = tapeFault s .number
 abbrev pub tapePlace : List ℕ → ℕ
 tapePlace s = tapeFault s .place
 
--- what the first three of these checks answer: the tape's limits, or their number
+-- what reading its head answers: the limits, or the number
 unfoldable pub readHead : List ℕ → Answer ℕ Limits
 readHead s = byNumber (headRefusal s) (given (limitsAt s)) (refused (headRefusal s))
 
--- the answer of each case of checking a whole tape, and what a tape is answered: the number of its blocks, or its fault
+-- the answer of each case of checking a whole tape
 abbrev pub tapeAnswer : TapeCheck → Answer Fault ℕ
 tapeAnswer (whole.Accepted n) = given n
 tapeAnswer (whole.Refused why p) = refused (refusalNumber why at p)
 
--- the answer of a fault, of a tape s
+-- what a tape s is answered whose fault is f: the number of its blocks where there is none
 abbrev pub byFault : Fault → List ℕ → Answer Fault ℕ
 byFault f s = byNumber (f .number) (given (recordsIn s)) (refused f)
 
+-- by the records alone, and by the whole tape
 unfoldable pub checkRecords : List ℕ → Answer Fault ℕ
 checkRecords s = byFault (faultFrom 1 (tapeBlocks s)) s
 

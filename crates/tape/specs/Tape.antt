@@ -1,4 +1,4 @@
--- Document 01, "Tape": what the bytes of a tape say. Fields are packed without gaps, most significant bit first. Assumes nothing.
+-- Document 01, "Tape": what the bytes of a tape say, as the number that they write, most significant byte first. Assumes nothing.
 use Prim.Native.Nat.{ℕ, zero, suc, _+_, _-_, _*_, _/_}
 use mathlib.Core.List.{List, [], _∷_}
 use lib.ListN.{length, take, drop, getD}
@@ -8,7 +8,7 @@ use Rattle.fields.specs.Signed.{signedOf, bitsOf}
 use Rattle.machine.specs.declared.Limits.{Limits}
 use Rattle.machine.specs.declared.Block.{Block}
 
--- "Limits, 24 bytes: acceleration X, Y, Z (25 bits each), speed X, Y, Z (20 each), J (20), E (10), T (14), 13 zero bits"
+-- the limits: how many bytes, and the widths in bits of acceleration X, Y, Z, speed X, Y, Z, J, E, T and the zero bits
 abbrev pub limitsBytes : ℕ
 limitsBytes = 24
 
@@ -46,7 +46,7 @@ limitsAt s = limitsFrom (limitsValues s)
 unfoldable pub zeroBits : List ℕ → ℕ
 zeroBits s = getD (limitsValues s) 9 0
 
--- "Record, 16 bytes: move X, Y, Z (21 each), feed (20), radius (24), mark (21)"; moves are two's complement
+-- a record: how many bytes, the bits of a move, and the widths in bits of move X, Y, Z, feed, radius and mark
 abbrev pub recordBytes : ℕ
 recordBytes = 16
 
@@ -56,7 +56,7 @@ moveBits = 21
 abbrev pub recordLayout : List ℕ
 recordLayout = moveBits ∷ moveBits ∷ moveBits ∷ 20 ∷ 24 ∷ 21 ∷ []
 
--- the values of these fields, of a block
+-- the values of these fields, of a block; its moves by two's complement
 abbrev pub blockFields : Block → List ℕ
 blockFields b = bitsOf moveBits (b .x) ∷ bitsOf moveBits (b .y) ∷ bitsOf moveBits (b .z) ∷ b .feed ∷ b .radius ∷ b .mark ∷ []
 
@@ -84,7 +84,7 @@ recordValues s = split recordLayout (numberOf (take recordBytes s))
 unfoldable pub blockAt : List ℕ → Block
 blockAt s = blockFrom (recordValues s)
 
--- "Record k, from 0, begins at byte 24 + 16 × k"
+-- the byte at which record k begins, k counted from 0, and the block that it says
 abbrev pub recordStart : ℕ → ℕ
 recordStart k = limitsBytes + recordBytes * k
 

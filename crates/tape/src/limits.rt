@@ -16,7 +16,7 @@ use machine::Limits;
 use machine::Refusal;
 use machine::check::check_limits;
 
-// The limits that the first 24 bytes say, whatever the zero bits are. Fields are named by their first bit and their width.
+// The limits that the first 24 bytes say, unchecked, whatever the zero bits are. A field is named by its first bit and its width.
 fn decode_limits(s: &[u8]) -> Limits
     requires { ⌜ limitsBytes ≤ length (now s) ⌝ }
     ensures { λ r. ⌜ r ≡ limitsAt (now (s .entry)) ⌝ }
@@ -38,12 +38,12 @@ fn decode_limits(s: &[u8]) -> Limits
     }
 }
 
-// The first word: accelerations X and Y, and Z without its 11 low bits.
+// The first word of limits: accelerations X and Y, and Z without its 11 low bits.
 fn first_word(accel: Axes) -> u64
     requires { ⌜ AxesBelow (2 ^ 25) accel ⌝ }
     ensures { λ r. ⌜ Bits 64 (accel .x * 2 ^ 39 + accel .y * 2 ^ 14 + accel .z / 2 ^ 11) r ⌝ }
 {
-    accel.x * 549_755_813_888 + accel.y * 16_384 + accel.z / 2_048
+    (accel.x << 39) + (accel.y << 14) + (accel.z >> 11)
 }
 
 // The second word: the 11 low bits of acceleration Z, speeds X and Y, and Z without its 7 low bits.
@@ -51,7 +51,7 @@ fn second_word(z: u64, speed: Axes) -> u64
     requires { ⌜ AxesBelow (2 ^ 20) speed ⌝ }
     ensures { λ r. ⌜ Bits 64 (z % 2 ^ 11 * 2 ^ 53 + speed .x * 2 ^ 33 + speed .y * 2 ^ 13 + speed .z / 2 ^ 7) r ⌝ }
 {
-    z % 2_048 * 9_007_199_254_740_992 + speed.x * 8_589_934_592 + speed.y * 8_192 + speed.z / 128
+    ((z % (1 << 11)) << 53) + (speed.x << 33) + (speed.y << 13) + (speed.z >> 7)
 }
 
 // The third word: the 7 low bits of speed Z, corner jump, chord tolerance, tick and 13 zero bits.
@@ -59,7 +59,7 @@ fn third_word(z: u64, jump: u64, chord: u64, tick: u64) -> u64
     requires { ⌜ (jump < 2 ^ 20) × ((chord < 2 ^ 10) × (tick < 2 ^ 14)) ⌝ }
     ensures { λ r. ⌜ Bits 64 (z % 2 ^ 7 * 2 ^ 57 + jump * 2 ^ 37 + chord * 2 ^ 27 + tick * 2 ^ 13) r ⌝ }
 {
-    z % 128 * 144_115_188_075_855_872 + jump * 137_438_953_472 + chord * 134_217_728 + tick * 8_192
+    ((z % (1 << 7)) << 57) + (jump << 37) + (chord << 27) + (tick << 13)
 }
 
 // Stores limits whose values fit their fields in the first 24 bytes.

@@ -1,9 +1,10 @@
 // One record: 16 bytes, read and written as two words.
 ghost use mathlib.Core.Path.{_≡_};
-ghost use Prim.Native.Nat.{_≤_};
+ghost use Prim.Native.Nat.{_+_, _*_, _/_, _%_, _^_, _<_, _≤_};
 ghost use lib.ListN.{length};
 ghost use Rattle.fields.specs.Layouts.{InWidths};
 ghost use Rattle.fields.specs.Bytes.{withBytes};
+ghost use Rattle.fields.specs.Fields.{Bits};
 ghost use Rattle.tape.specs.Tape.{blockAt, blockFields, blockNumber, recordBytes, recordLayout};
 ghost use Rattle.tape.specs.Display.{readRecord, recordAnswer, recordWriteRefusal, recordWritten, Wrote};
 use crate::RECORD_BYTES;
@@ -15,38 +16,46 @@ use machine::check::check_block;
 
 // Bits of a move.
 const MOVE: usize = 21;
-// What a field is multiplied by for the bits below it in its word: move X has 43, move Y 22 and move Z 1 below it in the
-// first word, which ends with the highest bit of the feed, over 19 others; in the second they have 45 below them, and the
-// radius 21.
-const BELOW_X: u64 = 8_796_093_022_208;
 
-const BELOW_Y: u64 = 4_194_304;
+// The feed of the two words of a record: its highest bit ends the first, its 19 others begin the second.
+fn feed_of(first: u64, second: u64) -> u64
+    ensures { λ r. ⌜ r ≡ first % 2 * 2 ^ 19 + second / 2 ^ 45 ⌝ }
+{
+    ((first % 2) << 19) + (second >> 45)
+}
 
-const BELOW_Z: u64 = 2;
-
-const BELOW_TOP: u64 = 524_288;
-
-const BELOW_FEED: u64 = 35_184_372_088_832;
-
-const BELOW_RADIUS: u64 = 2_097_152;
-// 2 to the 24 bits of a radius.
-const RADIUS_SIZE: u64 = 16_777_216;
-
-// The block that the first 16 bytes say.
+// The block that the first 16 bytes say, unchecked; for who has seen that they are there. Moves X, Y and Z have 43, 22 and 1
+// bits below them in the first word, and the radius has 21 below it in the second.
 pub fn decode_record(s: &[u8]) -> Block
     requires { ⌜ recordBytes ≤ length (now s) ⌝ }
     ensures { λ r. ⌜ r ≡ blockAt (now (s .entry)) ⌝ }
 {
-    let high = fields::read_word(s, 0);
-    let low = fields::read_word(s, 8);
+    let first = fields::read_word(s, 0);
+    let second = fields::read_word(s, 8);
     Block {
-        x: fields::to_signed(high / BELOW_X, MOVE),
-        y: fields::to_signed(high / BELOW_Y, MOVE),
-        z: fields::to_signed(high / BELOW_Z, MOVE),
-        feed: high % BELOW_Z * BELOW_TOP + low / BELOW_FEED,
-        radius: low / BELOW_RADIUS % RADIUS_SIZE,
-        mark: low % BELOW_RADIUS,
+        x: fields::to_signed(first >> 43, MOVE),
+        y: fields::to_signed(first >> 22, MOVE),
+        z: fields::to_signed(first >> 1, MOVE),
+        feed: feed_of(first, second),
+        radius: (second >> 21) % (1 << 24),
+        mark: second % (1 << 21),
     }
+}
+
+// The first word of a record, from the bits of its moves and its feed.
+fn first_word(x: u64, y: u64, z: u64, feed: u64) -> u64
+    requires { ⌜ (x < 2 ^ 21) × ((y < 2 ^ 21) × ((z < 2 ^ 21) × (feed < 2 ^ 20))) ⌝ }
+    ensures { λ r. ⌜ Bits 64 (x * 2 ^ 43 + y * 2 ^ 22 + z * 2 + feed / 2 ^ 19) r ⌝ }
+{
+    (x << 43) + (y << 22) + (z << 1) + (feed >> 19)
+}
+
+// The second word of a record.
+fn second_word(feed: u64, radius: u64, mark: u64) -> u64
+    requires { ⌜ (radius < 2 ^ 24) × (mark < 2 ^ 21) ⌝ }
+    ensures { λ r. ⌜ Bits 64 (feed % 2 ^ 19 * 2 ^ 45 + radius * 2 ^ 21 + mark) r ⌝ }
+{
+    ((feed % (1 << 19)) << 45) + (radius << 21) + mark
 }
 
 // Stores a block whose values fit their fields in the first 16 bytes.
@@ -57,11 +66,10 @@ fn store_record(b: Block, out: &mut [u8])
     let x = fields::to_bits(b.x, MOVE);
     let y = fields::to_bits(b.y, MOVE);
     let z = fields::to_bits(b.z, MOVE);
-    let feed = b.feed;
-    let high = x * BELOW_X + y * BELOW_Y + z * BELOW_Z + feed / BELOW_TOP;
-    let low = feed % BELOW_TOP * BELOW_FEED + b.radius * BELOW_RADIUS + b.mark;
-    fields::write_word(out, 0, high);
-    fields::write_word(out, 8, low);
+    let first = first_word(x, y, z, b.feed);
+    let second = second_word(b.feed, b.radius, b.mark);
+    fields::write_word(out, 0, first);
+    fields::write_word(out, 8, second);
 }
 
 // Reads the record that the bytes begin with; later bytes play no part. 9 comes first, then 2 to 6.

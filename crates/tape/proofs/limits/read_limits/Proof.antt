@@ -6,16 +6,17 @@ use Rattle.tape.specs.Tape.{zeroBits}
 use Rattle.tape.specs.Display.{readLimits, limitsReadRefusal}
 use Rattle.tape.proofs.Answers.{gives, refuses-by}
 use Rattle.tape.proofs.Checks.{limits-short, limits-long, limits-bits, limits-zeros}
-use Rattle.tape.proofs.Words.{zeros-of-field}
+use Rattle.tape.proofs.Words.{limits-field}
 use borrow.Author.Needs.{needs}
 use Rattle.tape.proofs.limits.read_limits.Statement.{statement}
 use Rattle.tape.proofs.limits.read_limits.Tie as tie
 
 -- the zero bits, once they are read
 bits : (c : tie.After-read-field) → c .read-field .result ≡ zeroBits (c .before .before .before .args .s .now)
+unfolding zeroBits
 bits c =
     let known = c .before .before in
-    c .read-field .ensures .is ∙ zeros-of-field (record { each = λ i. known .shared-slice-known .given i .fits }) (c .before .if1 .left)
+    c .read-field .ensures .is ∙ limits-field (record { each = λ i. known .shared-slice-known .given i .fits }) (c .before .if1 .left) 9
 
 -- the number, once the limits are checked
 number : (c : tie.After-check-limits) → limitsReadRefusal (c .before .before .before .before .before .before .args .s .now) ≡ checkedNumber (c .check-limits .result)

@@ -1,14 +1,12 @@
 -- `tape::records::store_record` meets its contract: the two words are the block's number, from `words-of-block`. Assumes nothing.
 use mathlib.Core.Path.{ap, _∙_}
-use mathlib.Core.List.{[], _∷_}
 use native.Mathlib.Omega.{arith}
 use mir.Syntax.{w64}
 use mir.Facts.{toZ-ofZ}
-use Rattle.fields.specs.Layouts.{joined}
 use Rattle.fields.specs.Bytes.{withBytes}
 use Rattle.fields.specs.Signed.{bitsOf}
 use Rattle.fields.proofs.Bytes.{with-next}
-use Rattle.tape.specs.Tape.{recordLayout, blockNumber}
+use Rattle.tape.specs.Tape.{moveBits}
 use Rattle.tape.proofs.Words.{words-of-block}
 use borrow.Author.Needs.{needs}
 use Rattle.tape.proofs.records.store_record.Statement.{statement}
@@ -23,35 +21,11 @@ to-bits-requires-2 c κs = search needs
 to-bits-requires-3 : tie.Need-to-bits-requires-3
 to-bits-requires-3 c κs = search needs
 
-mul-high : tie.Need-mul-high
-mul-high c = search needs
+first-word-requires : tie.Need-first-word-requires
+first-word-requires c κs = search needs
 
-mul-high-2 : tie.Need-mul-high-2
-mul-high-2 c = search needs
-
-add-high : tie.Need-add-high
-add-high c = search needs
-
-mul-high-3 : tie.Need-mul-high-3
-mul-high-3 c = search needs
-
-add-high-2 : tie.Need-add-high-2
-add-high-2 c = search needs
-
-add-high-3 : tie.Need-add-high-3
-add-high-3 c = search needs
-
-mul-low : tie.Need-mul-low
-mul-low c = search needs
-
-mul-low-2 : tie.Need-mul-low-2
-mul-low-2 c = search needs
-
-add-low : tie.Need-add-low
-add-low c = search needs
-
-add-low-2 : tie.Need-add-low-2
-add-low-2 c = search needs
+second-word-requires : tie.Need-second-word-requires
+second-word-requires c κs = search needs
 
 write-word-requires : tie.Need-write-word-requires
 write-word-requires c κs = search needs
@@ -63,24 +37,23 @@ same-length : tie.Need-same-length
 same-length c = search needs
 
 returns : tie.Need-returns
-unfolding blockNumber
 returns c =
     let w = c .before .before in
     let v = w .before .before .before .before in
-    let z = v .before .before .before .before in
+    let second = v .before .before in
+    let first = second .before in
+    let z = first .before in
     let y = z .before .before in
     let x = y .before .before in
     let a = x .before .before .before in
     let b = a .args .b in
-    with-next _ 0 8 8 _ _ (v .write-word .ensures) (w .write-word2 .ensures) (omega (arith, a .pre .0))
-    (omega (arith, a .pre .1 .1 .1 .1 .1 .0, a .pre .1 .1 .1 .1 .1 .1 .0))
+    with-next _ 0 8 8 _ _ (v .write-word .ensures) (w .write-word2 .ensures) (omega (arith, a .pre .0)) (second .second-word .ensures .small)
     ∙ ap (withBytes (a .args .out .now) 0 16)
-    (words-of-block (x .to-bits .result) (y .to-bits2 .result) (z .to-bits3 .result) (b .feed) (b .radius) (b .mark)
-    ∙ (λ i. joined recordLayout
-    ((x .to-bits .ensures .is ∙ ap (bitsOf 21) (toZ-ofZ {w = w64} {z = b .x} (record { sfits = x .before .struct-told .given .0 .1 }))) i
-    ∷ (y .to-bits2 .ensures .is ∙ ap (bitsOf 21) (toZ-ofZ {w = w64} {z = b .y} (record { sfits = y .before .struct-told2 .given .1 .0 .1 }))) i
-    ∷ (z .to-bits3 .ensures .is ∙ ap (bitsOf 21) (toZ-ofZ {w = w64} {z = b .z} (record { sfits = z .before .struct-told3 .given .1 .1 .0 .1 }))) i
-    ∷ b .feed ∷ b .radius ∷ b .mark ∷ [])))
+    (words-of-block b
+    (x .to-bits .ensures .is ∙ ap (bitsOf moveBits) (toZ-ofZ {w = w64} {z = b .x} (record { sfits = x .before .struct-told .given .0 .1 })))
+    (y .to-bits2 .ensures .is ∙ ap (bitsOf moveBits) (toZ-ofZ {w = w64} {z = b .y} (record { sfits = y .before .struct-told2 .given .1 .0 .1 })))
+    (z .to-bits3 .ensures .is ∙ ap (bitsOf moveBits) (toZ-ofZ {w = w64} {z = b .z} (record { sfits = z .before .struct-told3 .given .1 .1 .0 .1 })))
+    (first .first-word .ensures .is) (second .second-word .ensures .is))
 
 pub store-record-spec : {M : Type 1} → statement M
 store-record-spec =
@@ -89,16 +62,8 @@ store-record-spec =
     to-bits-requires
     to-bits-requires-2
     to-bits-requires-3
-    mul-high
-    mul-high-2
-    add-high
-    mul-high-3
-    add-high-2
-    add-high-3
-    mul-low
-    mul-low-2
-    add-low
-    add-low-2
+    first-word-requires
+    second-word-requires
     write-word-requires
     write-word-requires-2
     same-length

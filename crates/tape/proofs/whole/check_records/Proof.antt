@@ -6,13 +6,13 @@ use Rattle.machine.specs.Checks.{checkedNumber, blockRefusal}
 use Rattle.tape.specs.Tape.{recordAt}
 use Rattle.tape.specs.Display.{_at_, checkRecords}
 use Rattle.tape.proofs.Answers.{refusal-above, faulty, faultless}
-use Rattle.tape.proofs.Faults.{part-record, Passed, passed-none, passed-next, fault-at, fault-none}
+use Rattle.tape.proofs.Faults.{part-record, PassedBefore, passed-none, passed-next, fault-at, fault-none}
 use borrow.Author.Needs.{needs}
 use Rattle.tape.proofs.whole.check_records.Statement.{statement}
 use Rattle.tape.proofs.whole.check_records.Tie as tie
 
 abbrev Inv-loop : tie.InvT-loop
-Inv-loop s n k₀ k = (k ≤ n) × Passed s k
+Inv-loop s n k₀ k = (k ≤ n) × PassedBefore s k
 
 abbrev μ-loop : tie.MeasureT-loop
 μ-loop s n k₀ k = n - k
