@@ -1,18 +1,18 @@
 -- How large a block's numbers are. From the ranges that the checks allow. Assumes nothing.
-use mathlib.Core.Path.{_≡_, refl, sym, ap, _∙_}
-use mathlib.Core.Bool.{Bool, true, false, not, _&&_}
-use Prim.Native.Nat.{ℕ, _+_, _-_, _*_, _/_, _^_, _≤_, _<_, min, max}
-use native.Mathlib.Nat.{mul-le-mul, le-trans}
+use mathlib.Core.Path.{_≡_, refl}
+use mathlib.Core.Bool.{Bool, true, false, _&&_}
+use Prim.Native.Nat.{ℕ, _+_, _-_, _*_, _^_, _≤_, _<_}
+use native.Mathlib.Nat.{mul-le-mul}
 use native.Mathlib.Omega.{arith}
 use borrow.Author.Tests.{leb-true, ltb-false, eqb-false, not-false}
-use lib.Dec.{leb, ltb, eqb, lit<}
-use Rattle.arith.specs.Root.{rootOf}
+use lib.Dec.{eqb, lit<}
 use Rattle.arith.proofs.RootLaws.{root-is}
 use Rattle.arith.proofs.Squares.{square-less}
-use Rattle.machine.specs.Ranges.{mostMove, mostFeed, mostRadius, mostMark}
-use Rattle.machine.specs.Checks.{pick, within, movesOf, greatestMove, blockRefusal}
-use Rattle.machine.specs.Numbers.{AxesBelow, unit, lengthFrom}
+use Rattle.machine.specs.Ranges.{mostAccel, mostSpeed, mostJump, mostChord, leastTick, mostTick, mostMove, mostFeed, mostRadius, mostMark}
+use Rattle.machine.specs.Checks.{pick, within, axesWithin, limitsWithin, limitsRefusal, movesOf, greatestMove, blockRefusal}
+use Rattle.machine.specs.Numbers.{AxesBelow, LimitsBelow, unit, lengthFrom}
 use Rattle.machine.specs.declared.Axes.{Axes}
+use Rattle.machine.specs.declared.Limits.{Limits}
 use Rattle.machine.specs.declared.Block.{Block}
 
 -- what a block that passes 2 to 6 has
@@ -29,7 +29,8 @@ not-picked : (t : Bool) (n m : ℕ) → 0 < n → pick t n m ≡ 0 → (t ≡ fa
 not-picked true n m p e = absurd (omega arith)
 not-picked false n m p e = (refl, e)
 
-both : (a b : Bool) → a && b ≡ true → (a ≡ true) × (b ≡ true)
+-- both tests hold
+pub both : (a b : Bool) → a && b ≡ true → (a ≡ true) × (b ≡ true)
 both true true e = (refl, refl)
 both true false e = (refl, e)
 both false b e = (e, absurd (differ e))
@@ -77,3 +78,54 @@ unfolding lengthFrom
 length-below m h =
     square-less {a = lengthFrom m} {b = 2 ^ 25}
     (omega (arith, root-is (unit * unit * (m .x * m .x + m .y * m .y + m .z * m .z)) .not-above, squares-below m h))
+
+-- the values of the three axes are from 1 to `high`
+pub record AxesIn (high : ℕ) (a : Axes) : Type 0 where
+  pub x-in : (1 ≤ a .x) × (a .x ≤ high)
+  pub y-in : (1 ≤ a .y) × (a .y ≤ high)
+  pub z-in : (1 ≤ a .z) × (a .z ≤ high)
+
+-- what limits that pass 1 have
+pub record LimitsIn (l : Limits) : Type 0 where
+  pub accel-in : AxesIn mostAccel (l .accel)
+  pub speed-in : AxesIn mostSpeed (l .speed)
+  pub jump-in : (1 ≤ l .jump) × (l .jump ≤ mostJump)
+  pub chord-in : (1 ≤ l .chord) × (l .chord ≤ mostChord)
+  pub tick-in : (leastTick ≤ l .tick) × (l .tick ≤ mostTick)
+
+value-in : (low high value : ℕ) → within low high value ≡ true → (low ≤ value) × (value ≤ high)
+value-in low high value e = let h = both _ _ e in (leb-true low value (h .0), leb-true value high (h .1))
+
+axes-in : (high : ℕ) (a : Axes) → axesWithin high a ≡ true → AxesIn high a
+axes-in high a e =
+    let h = both (within 1 high (a .x) && within 1 high (a .y)) (within 1 high (a .z)) e in
+    let g = both (within 1 high (a .x)) (within 1 high (a .y)) (h .0) in
+    record { x-in = value-in _ _ _ (g .0); y-in = value-in _ _ _ (g .1); z-in = value-in _ _ _ (h .1) }
+
+passed-one : (t : Bool) → pick t 0 1 ≡ 0 → t ≡ true
+passed-one true e = refl
+passed-one false e = absurd (omega arith)
+
+pub limits-in : (l : Limits) → limitsRefusal l ≡ 0 → LimitsIn l
+unfolding limitsRefusal limitsWithin
+limits-in l e =
+    let all = both _ _ (passed-one _ e) in
+    let axes = both _ _ (all .0) in
+    let rest = both _ _ (all .1) in
+    let first = both _ _ (rest .0) in
+    record {
+      accel-in = axes-in mostAccel (l .accel) (axes .0);
+      speed-in = axes-in mostSpeed (l .speed) (axes .1);
+      jump-in = value-in 1 mostJump (l .jump) (first .0);
+      chord-in = value-in 1 mostChord (l .chord) (first .1);
+      tick-in = value-in leastTick mostTick (l .tick) (rest .1);
+    }
+
+axes-below : (high : ℕ) (a : Axes) → high < 2 ^ 32 → AxesIn high a → AxesBelow (2 ^ 32) a
+axes-below high a h i = (omega (arith, i .x-in .1), omega (arith, i .y-in .1), omega (arith, i .z-in .1))
+
+-- they are below 2^32
+pub limits-below : (l : Limits) → limitsRefusal l ≡ 0 → LimitsBelow l
+limits-below l e =
+    let i = limits-in l e in
+    (axes-below mostAccel (l .accel) (lit< tt) (i .accel-in), axes-below mostSpeed (l .speed) (lit< tt) (i .speed-in), omega (arith, i .jump-in .1), omega (arith, i .chord-in .1), omega (arith, i .tick-in .1))

@@ -1,0 +1,135 @@
+-- Block speed and acceleration are the largest numbers of document 01, and no axis limit is broken. From arith's laws of the
+-- capped quotient and the laws of the length. Assumes nothing.
+use mathlib.Core.Path.{_≡_, refl, sym, subst}
+use mathlib.Core.List.{List, [], _∷_}
+use mathlib.Core.Bool.{Bool, true, _&&_}
+use Prim.Native.Nat.{ℕ, zero, suc, _-_, _*_, _/_, _≤_, _<_, max}
+use native.Mathlib.Nat.{le-refl, le-trans, le-of-lt, lt-of-not-le, mul-le-mul, mul-le-mul-left, mul-le-mul-right, le-max-left, max-le, max-eq-left, max-eq-right, mul-comm, mul-assoc, mul-pos, le-of-mul-le-mul-right, div-le-of-le-mul}
+use native.Mathlib.Decide.{decLe}
+use native.Mathlib.Omega.{arith}
+use borrow.Author.Tests.{leb-true}
+use lib.Dec.{leb, lit<, lit≤}
+use lib.ListN.{getD}
+use Rattle.arith.proofs.QuotientLaws.{quotient-is}
+use Rattle.machine.specs.Ranges.{mostAccel, mostSpeed}
+use Rattle.machine.specs.Checks.{greatestMove, movesOf, blockRefusal, limitsRefusal}
+use Rattle.machine.specs.Numbers.{unit, lengthFrom, lengthOf, axisLimit, eachAxis, speedOf, torquePercent, torqueSteps, axisAccel, accelOf}
+use Rattle.machine.specs.Meaning.{Largest, Allowed, SpeedFits, AccelFits}
+use Rattle.machine.specs.declared.Axes.{Axes}
+use Rattle.machine.specs.declared.Limits.{Limits}
+use Rattle.machine.specs.declared.Block.{Block}
+use Rattle.machine.proofs.Bounds.{AxesIn, both, in-range, limits-in}
+use Rattle.machine.proofs.Limited.{each-below}
+use Rattle.machine.proofs.LengthLaws.{length-spans, length-within}
+
+-- a rate below one that is allowed is allowed
+pub allowed-below : (limits : Axes) (length : ℕ) (m : Axes) {r s : ℕ} → r ≤ s → Allowed limits length m s → Allowed limits length m r
+allowed-below limits length m h a =
+    record {
+      on-x = le-trans (mul-le-mul-right (unit * m .x) h) (a .on-x);
+      on-y = le-trans (mul-le-mul-right (unit * m .y) h) (a .on-y);
+      on-z = le-trans (mul-le-mul-right (unit * m .z) h) (a .on-z);
+    }
+
+-- the three quotients in turn give the largest number up to the cap that every axis allows
+pub each-largest : (cap : ℕ) (limits : Axes) (length : ℕ) (m : Axes) → Largest (λ n. (n ≤ cap) × Allowed limits length m n) (eachAxis cap limits length m)
+unfolding eachAxis axisLimit
+each-largest cap limits length m =
+    let x = quotient-is cap (limits .x * length) (unit * m .x) in
+    let y = quotient-is (axisLimit cap (limits .x) length (m .x)) (limits .y * length) (unit * m .y) in
+    let z = quotient-is (axisLimit (axisLimit cap (limits .x) length (m .x)) (limits .y) length (m .y)) (limits .z * length) (unit * m .z) in
+    record {
+      has = (
+        each-below cap limits length m,
+        record {
+          on-x = le-trans (mul-le-mul-right (unit * m .x) (le-trans (z .not-above-cap) (y .not-above-cap))) (x .not-above);
+          on-y = le-trans (mul-le-mul-right (unit * m .y) (z .not-above-cap)) (y .not-above);
+          on-z = z .not-above;
+        },
+      );
+      most = λ p h. z .largest p (y .largest p (x .largest p (h .0) (h .1 .on-x)) (h .1 .on-y)) (h .1 .on-z);
+    }
+
+-- Block speed v: the largest number not above the feed that the speed limits allow
+pub speed-largest : (l : Limits) (b : Block) → Largest (SpeedFits l b) (speedOf l b)
+unfolding speedOf
+speed-largest l b = each-largest (b .feed) (l .speed) (lengthOf b) (movesOf b)
+
+-- limits of at least 1 allow the rate 1, since no move is above the length
+pub one-allowed : (high : ℕ) (limits m : Axes) → AxesIn high limits → Allowed limits (lengthFrom m) m 1
+one-allowed high limits m h =
+    let spans = length-spans m in
+    let times : (limit part : ℕ) → 1 ≤ limit → part ≤ lengthFrom m → 1 * part ≤ limit * lengthFrom m = λ limit part g s. mul-le-mul g s in
+    record { on-x = times _ _ (h .x-in .0) (spans .0); on-y = times _ _ (h .y-in .0) (spans .1); on-z = times _ _ (h .z-in .0) (spans .2) }
+
+-- so the block speed is at least 1
+pub speed-above : (l : Limits) (b : Block) → limitsRefusal l ≡ 0 → blockRefusal b ≡ 0 → 1 ≤ speedOf l b
+speed-above l b h g = speed-largest l b .most 1 (in-range b g .feed-above, one-allowed mostSpeed (l .speed) (movesOf b) (limits-in l h .speed-in))
+
+-- a rate that an axis with a move allows is at most twice the limit, where the length is at most twice that move
+rate-double : (rate limit high length part : ℕ) → 0 < part → limit ≤ high → length ≤ 2 * part → rate * part ≤ limit * length → rate ≤ 2 * high
+rate-double rate limit high length part p h s e =
+    le-of-mul-le-mul-right {k = part} (le-trans e (le-trans (mul-le-mul h s) (omega (arith, mul-comm high (2 * part), mul-assoc 2 part high, mul-comm part high, mul-assoc 2 high part)))) p
+
+-- what holds of three numbers holds of the greatest
+larger-of : (P : ℕ → Type 0) (x y : ℕ) → P x → P y → P (max x y)
+larger-of P x y a b = elim (decLe y x) [ yes h ↦ subst P (sym (max-eq-left h)) a | no h ↦ subst P (sym (max-eq-right (le-of-lt (lt-of-not-le h)))) b ]
+
+-- Acceleration before the torque steps: the largest number that the acceleration limits allow
+pub axis-accel-largest : (l : Limits) (b : Block) → limitsRefusal l ≡ 0 → blockRefusal b ≡ 0 → Largest (AccelFits l b) (axisAccel l b)
+unfolding axisAccel greatestMove
+axis-accel-largest l b h g =
+    let m = movesOf b in
+    let each = each-largest (2 * mostAccel) (l .accel) (lengthOf b) m in
+    let limits = limits-in l h .accel-in in
+    let P : ℕ → ℕ → Type 0 = λ p n. p * (unit * n) ≤ mostAccel * lengthOf b in
+    let at : (p : ℕ) → AccelFits l b p → P p (greatestMove b) =
+    λ p a.
+    larger-of (P p) (m .x) (max (m .y) (m .z)) (le-trans (a .on-x) (mul-le-mul-right _ (limits .x-in .1)))
+    (larger-of (P p) (m .y) (m .z) (le-trans (a .on-y) (mul-le-mul-right _ (limits .y-in .1))) (le-trans (a .on-z) (mul-le-mul-right _ (limits .z-in .1)))) in
+    let moves = in-range b g .moves in
+    record {
+      has = each .has .1;
+      most = λ p a. each .most p (rate-double p mostAccel mostAccel (lengthOf b) (unit * greatestMove b) (mul-pos {m = unit} (lit< tt) moves) (le-refl mostAccel) (length-within b) (at p a), a);
+    }
+
+-- it is at least 1
+pub axis-accel-above : (l : Limits) (b : Block) → limitsRefusal l ≡ 0 → blockRefusal b ≡ 0 → 1 ≤ axisAccel l b
+axis-accel-above l b h g = axis-accel-largest l b h g .most 1 (one-allowed mostAccel (l .accel) (movesOf b) (limits-in l h .accel-in))
+
+-- every number of a list is at most `most`
+atMost : ℕ → List ℕ → Bool
+atMost most [] = true
+atMost most (x ∷ s) = leb x most && atMost most s
+
+list-at-most : (most : ℕ) (s : List ℕ) → atMost most s ≡ true → (k : ℕ) → getD s k 0 ≤ most
+unfolding atMost
+list-at-most most [] e k = omega arith
+list-at-most most (x ∷ s) e zero = leb-true x most (both (leb x most) (atMost most s) e .0)
+list-at-most most (x ∷ s) e (suc k) = list-at-most most s (both (leb x most) (atMost most s) e .1) k
+
+-- a torque step is at most 100 percent
+pub percent-below : (v : ℕ) → torquePercent v ≤ 100
+unfolding torquePercent atMost
+percent-below v = list-at-most 100 torqueSteps refl ((v - 1) / 125_000)
+
+-- so it raises nothing
+torqued-below : (a percent : ℕ) → percent ≤ 100 → a * percent / 100 ≤ a
+torqued-below a percent h = div-le-of-le-mul 100 (omega (arith, mul-le-mul-left a h, mul-comm a 100))
+
+-- Acceleration a is from 1 to twice the greatest limit
+pub accel-above : (l : Limits) (b : Block) → 1 ≤ accelOf l b
+unfolding accelOf
+accel-above l b = le-max-left _ _
+
+pub accel-below : (l : Limits) (b : Block) → accelOf l b ≤ 2 * mostAccel
+unfolding accelOf axisAccel
+accel-below l b = max-le (lit≤ tt) (le-trans (torqued-below _ _ (percent-below _)) (each-below _ _ _ _))
+
+-- and every axis allows it, also where it was raised to 1
+pub accel-allowed : (l : Limits) (b : Block) → limitsRefusal l ≡ 0 → blockRefusal b ≡ 0 → AccelFits l b (accelOf l b)
+unfolding accelOf
+accel-allowed l b h g =
+    allowed-below (l .accel) (lengthOf b) (movesOf b)
+    (max-le (axis-accel-above l b h g) (torqued-below _ _ (percent-below _)))
+    (axis-accel-largest l b h g .has)

@@ -1,0 +1,58 @@
+-- What document 01 says of the numbers where it says "the largest whole number with ...", in its own inequalities.
+-- The definitions of `Numbers` compute by roots and quotients; the laws of `proofs/` say that they are these numbers.
+use mathlib.Core.Path.{_≡_}
+use Prim.Native.Nat.{ℕ, _+_, _*_, _≤_, _<_}
+use lib.IntN.{ℤ, pos, _-ℤ_}
+use lib.Signed.{_≤ℤ_}
+use Rattle.machine.specs.Checks.{movesOf}
+use Rattle.machine.specs.Numbers.{CornerCap, none, upTo, unit, lengthOf, blockCap, chordFactor, cornerCap}
+use Rattle.machine.specs.declared.Axes.{Axes}
+use Rattle.machine.specs.declared.Limits.{Limits}
+use Rattle.machine.specs.declared.Block.{Block}
+
+-- q is the largest whole number that has the property
+pub record Largest (Has : ℕ → Type 0) (q : ℕ) : Type 0 where
+  pub has : Has q
+  pub most : (p : ℕ) → Has p → p ≤ q
+
+-- a square not above the sum of the three squared moves
+abbrev pub RootFits : Axes → ℕ → Type 0
+RootFits m n = n * n ≤ unit * unit * (m .x * m .x + m .y * m .y + m .z * m .z)
+
+-- rate × |move| ≤ limit × L on each axis; an axis that does not move allows every rate
+pub record Allowed (limits : Axes) (length : ℕ) (m : Axes) (rate : ℕ) : Type 0 where
+  pub on-x : rate * (unit * m .x) ≤ limits .x * length
+  pub on-y : rate * (unit * m .y) ≤ limits .y * length
+  pub on-z : rate * (unit * m .z) ≤ limits .z * length
+
+-- a speed not above the feed that every axis allows
+abbrev pub SpeedFits : Limits → Block → ℕ → Type 0
+SpeedFits l b v = (v ≤ b .feed) × Allowed (l .speed) (lengthOf b) (movesOf b) v
+
+-- an acceleration that every axis allows
+abbrev pub AccelFits : Limits → Block → ℕ → Type 0
+AccelFits l b = Allowed (l .accel) (lengthOf b) (movesOf b)
+
+-- q × T × T ≤ 8 × E × R × 10^12
+abbrev pub ChordFits : Limits → (radius : ℕ) → ℕ → Type 0
+ChordFits l radius q = q * (l .tick * l .tick) ≤ chordFactor l radius * 1_000_000_000_000
+
+-- what a corner cap is between blocks with P = `product` and S = `sum`: none where S ≥ P, otherwise, with the turn
+-- P - S above 0, the largest q with q × 2 × (P - S) ≤ J × J × P
+abbrev pub CornerIs : (jump product : ℕ) (sum : ℤ) → CornerCap → Type 0
+CornerIs jump product sum none = pos product ≤ℤ sum
+CornerIs jump product sum (upTo q) =
+    (turn : ℕ) × (pos turn ≡ pos product -ℤ sum) × (0 < turn) × Largest (λ p. p * (2 * turn) ≤ jump * jump * product) q
+
+-- a squared speed not above a corner cap
+abbrev pub CornerFits : CornerCap → ℕ → Type 0
+CornerFits none q = 0 ≤ q
+CornerFits (upTo cap) q = q ≤ cap
+
+-- a squared speed not above the two block caps and the corner cap
+abbrev pub JunctionFits : Limits → (a b : Block) → ℕ → Type 0
+JunctionFits l a b q = (q ≤ blockCap l a) × (q ≤ blockCap l b) × CornerFits (cornerCap l a b) q
+
+-- a peak p not above the block cap with 2 × p - entry - exit ≤ reach
+abbrev pub PeakFits : (cap reach entry exit : ℕ) → ℕ → Type 0
+PeakFits cap reach entry exit p = (p ≤ cap) × (2 * p ≤ reach + entry + exit)
