@@ -1,4 +1,5 @@
 -- The laws of the machine's numbers.
+pub mod AnswerLaws
 pub mod AxisLaws
 pub mod Bounds
 pub mod CapLaws

@@ -1,4 +1,5 @@
--- Document 01's machine and block: ranges, refusals, numbers and what the numbers mean.
+-- Document 01's machine and block: ranges, refusals, numbers, what the numbers mean, and what the calls answer.
+pub mod Answers
 pub mod Checks
 pub mod Line
 pub mod Meaning

@@ -1,13 +1,16 @@
 // The corner between two blocks.
 ghost use mathlib.Core.Path.{_≡_};
 ghost use Prim.Native.Nat.{_*_, _^_, _<_};
-ghost use Rattle.machine.specs.Checks.{movesOf};
-ghost use Rattle.machine.specs.Numbers.{AxesBelow, cornerFrom, dotOf, turnFrom, underCorner};
+ghost use Rattle.machine.specs.Checks.{blockRefusal, movesOf};
+ghost use Rattle.machine.specs.Numbers.{AxesBelow, LimitsBelow, cornerFrom, dotOf, junctionCap, turnFrom, underCorner};
 use crate::Block;
+use crate::Limits;
+use crate::measure::numbers;
 use arith::quotient::capped_quotient;
 use arith::signed::gap;
 use arith::signed::plus;
 use arith::signed::times;
+use arith::whole::smaller;
 
 // The square of the parts of a µm in which a length is counted.
 const UNIT_SQUARE: i64 = 1;
@@ -41,4 +44,15 @@ pub fn under_corner(cap: u64, jump: u64, a: Block, length_a: u64, b: Block, leng
 {
     let product = length_a * length_b;
     capped_quotient(cap, jump * jump, product, 2 * turn(product, a, b))
+}
+
+// The junction cap between two blocks that pass 2 to 6, (µm/s)².
+pub fn junction_cap(l: Limits, a: Block, b: Block) -> u64
+    requires { ⌜ LimitsBelow l × (blockRefusal a ≡ 0) × (blockRefusal b ≡ 0) ⌝ }
+    ensures { λ r. ⌜ r ≡ junctionCap l a b ⌝ }
+{
+    let before = numbers(l, a);
+    let after = numbers(l, b);
+    let cap = smaller(before.cap, after.cap);
+    under_corner(cap, l.jump, a, before.length, b, after.length)
 }

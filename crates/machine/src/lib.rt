@@ -1,5 +1,6 @@
 // The machine and the block: limits, blocks, what is refused of them, and the numbers that a plan
 // is made of. Lengths are in µm, speeds in µm/s, squared speeds in (µm/s)², accelerations in µm/s².
+pub mod answer;
 pub mod check;
 pub mod corner;
 pub mod measure;
@@ -80,5 +81,17 @@ pub enum Refusal {
 // The answer of a check.
 pub enum Checked {
     Passed,
+    Refused(Refusal),
+}
+
+// The answer of a call for a block's numbers.
+pub enum NumbersAnswer {
+    Of(Numbers),
+    Refused(Refusal),
+}
+
+// The answer of a call for a cap, (µm/s)².
+pub enum CapAnswer {
+    Of(u64),
     Refused(Refusal),
 }
