@@ -1,0 +1,2 @@
+-- The table of worked examples, proved.
+pub mod Table

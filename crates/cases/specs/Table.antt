@@ -1,0 +1,77 @@
+-- Document 01's starred proof cases, in its order: what the definitions compute, and what the paper says.
+-- The theorem `every-case-holds` of `proofs/` proves them together.
+use mathlib.Core.List.{List, [], _∷_}
+use mathlib.Core.Path.{_≡_}
+use Prim.Native.Nat.{ℕ}
+use lib.IntN.{pos, negℤ}
+use Rattle.profile.specs.Line.{numberAt}
+use Rattle.profile.specs.Passes.{planOf}
+use Rattle.machine.specs.Numbers.{CornerCap, none, upTo, lengthOf, accelOf, reachOf, chordCap, blockCap, cornerCap, numbersOf, rampOf}
+use Rattle.machine.specs.Line.{stepsOf}
+use Rattle.machine.specs.declared.Block.{Block}
+use Rattle.machine.specs.declared.Ramp.{Ramp}
+use Rattle.cases.specs.Shop.{machineM, curved, block}
+
+-- a case: the numbers that are computed, and those of the paper
+pub record Case : Type 0 where
+  pub computed : List ℕ
+  pub expected : List ℕ
+
+infix 4 _gives_
+abbrev pub _gives_ : List ℕ → List ℕ → Case
+computed gives expected = record { computed = computed; expected = expected }
+
+-- every case of a table holds: its numbers are the paper's
+pub data Holds : List Case → Type 0 where
+  done : Holds []
+  also : {c : Case} {rest : List Case} → c .computed ≡ c .expected → Holds rest → Holds (c ∷ rest)
+
+-- the moves of the cases, µm
+abbrev east : Block
+east = block (pos 1_000) (pos 0) (pos 0)
+
+abbrev west : Block
+west = block (negℤ (pos 1_000)) (pos 0) (pos 0)
+
+abbrev north : Block
+north = block (pos 0) (pos 1_000) (pos 0)
+
+-- a corner cap as numbers: none is no number
+abbrev capNumbers : CornerCap → List ℕ
+capNumbers none = []
+capNumbers (upTo q) = q ∷ []
+
+-- the plan from rest of a line of blocks on machine M
+abbrev plan : List Block → List ℕ
+plan line = planOf 0 (stepsOf machineM line)
+
+-- peak, up, cruise and down of a line's first block, by the first two numbers of its plan
+abbrev rampNumbers : Ramp → List ℕ
+rampNumbers r = r .peak ∷ r .up ∷ r .cruise ∷ r .down ∷ []
+
+abbrev firstRamp : Block → List Block → List ℕ
+firstRamp b rest = rampNumbers (rampOf (numbersOf machineM b) (numberAt (plan (b ∷ rest)) 0) (numberAt (plan (b ∷ rest)) 1))
+
+unfoldable pub table : List Case
+table =
+    -- Lengths: (1,0,0) 1; (1,1,0) 1; (2,2,1) 3; three times 1,000,000 gives 1,732,050
+    (lengthOf (block (pos 1) (pos 0) (pos 0)) ∷ [] gives 1 ∷ [])
+    ∷ (lengthOf (block (pos 1) (pos 1) (pos 0)) ∷ [] gives 1 ∷ [])
+    ∷ (lengthOf (block (pos 2) (pos 2) (pos 1)) ∷ [] gives 3 ∷ [])
+    ∷ (lengthOf (block (pos 1_000_000) (pos 1_000_000) (pos 1_000_000)) ∷ [] gives 1_732_050 ∷ [])
+    -- (3,4,0): a 250,000, b 2,500,000
+    ∷ (accelOf machineM (block (pos 3) (pos 4) (pos 0)) ∷ reachOf machineM (block (pos 3) (pos 4) (pos 0)) ∷ [] gives 250_000 ∷ 2_500_000 ∷ [])
+    -- (1000,0,0) then (0,1000,0): corner cap 2,000,000
+    ∷ (capNumbers (cornerCap machineM east north) gives 2_000_000 ∷ [])
+    -- (1000,0,0) then (-1000,0,0): corner cap 1,000,000
+    ∷ (capNumbers (cornerCap machineM east west) gives 1_000_000 ∷ [])
+    -- (1000,0,0) twice, straight on: none
+    ∷ (capNumbers (cornerCap machineM east east) gives [])
+    -- Radius 1,000 gives a chord cap of 2,000,000,000; at feed 20,000 the block cap is still 400,000,000
+    ∷ (chordCap machineM 1_000 ∷ blockCap machineM (curved 1_000 (pos 1_000) (pos 0) (pos 0)) ∷ [] gives 2_000_000_000 ∷ 400_000_000 ∷ [])
+    -- One block (1000,0,0): plan 0, 0; peak 200,000,000; up 500, cruise 0, down 500
+    ∷ (plan (east ∷ []) gives 0 ∷ 0 ∷ [])
+    ∷ (firstRamp east [] gives 200_000_000 ∷ 500 ∷ 0 ∷ 500 ∷ [])
+    -- Two blocks (1000,0,0): plan 0, 400,000,000, 0
+    ∷ (plan (east ∷ east ∷ []) gives 0 ∷ 400_000_000 ∷ 0 ∷ [])
+    ∷ []
