@@ -25,7 +25,7 @@ const WORDS: usize = 21;
 
 // What has been read of a case, and how many bytes of answers wait to be written.
 struct State {
-    words: [u64; 21],
+    words: [u64; WORDS],
     // words read
     count: usize,
     // the number being read, and its sign
@@ -37,7 +37,7 @@ struct State {
 
 fn fresh(used: usize) -> State {
     State {
-        words: [0; 21],
+        words: [0; WORDS],
         count: 0,
         value: 0,
         minus: false,
@@ -97,7 +97,7 @@ fn with_word(s: State) -> State {
     }
 }
 
-fn limits_of(w: [u64; 21]) -> Limits {
+fn limits_of(w: [u64; WORDS]) -> Limits {
     Limits {
         accel: Axes {
             x: w[0],
@@ -115,7 +115,7 @@ fn limits_of(w: [u64; 21]) -> Limits {
     }
 }
 
-fn first_block(w: [u64; 21]) -> Block {
+fn first_block(w: [u64; WORDS]) -> Block {
     Block {
         x: signed(w[9]),
         y: signed(w[10]),
@@ -126,7 +126,7 @@ fn first_block(w: [u64; 21]) -> Block {
     }
 }
 
-fn second_block(w: [u64; 21]) -> Block {
+fn second_block(w: [u64; WORDS]) -> Block {
     Block {
         x: signed(w[15]),
         y: signed(w[16]),
@@ -192,7 +192,7 @@ fn put_cap_answer(out: &mut [u8], at: usize, answer: CapAnswer) -> usize {
 }
 
 // The answer of a whole case.
-fn put_case(out: &mut [u8], at: usize, w: [u64; 21]) -> usize {
+fn put_case(out: &mut [u8], at: usize, w: [u64; WORDS]) -> usize {
     let l = limits_of(w);
     let a = first_block(w);
     let b = second_block(w);
