@@ -4,11 +4,14 @@
 test:
 	@tests/run
 
-# The cases of the program machine_run and what it must write for them, made again by the independent implementation.
+# make expected: the cases of the program machine_run and what it must write for them, made again by the
+# independent implementation.
+EXPECT = CARGO_TARGET_DIR=target/reference cargo run --quiet --release --offline \
+    --manifest-path tests/reference/Cargo.toml --bin machine_expect --
+
 expected:
-	cd tests/reference && cargo build --release --quiet --bin machine_expect --target-dir ../../target/reference
-	target/reference/release/machine_expect cases > crates/machine_run/stdin
-	target/reference/release/machine_expect answers < crates/machine_run/stdin > crates/machine_run/stdout
+	$(EXPECT) cases > crates/machine_run/stdin
+	$(EXPECT) answers < crates/machine_run/stdin > crates/machine_run/stdout
 
 fmt:
 	@rt fmt

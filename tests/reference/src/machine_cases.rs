@@ -1,6 +1,7 @@
 //! Cases for the machine's calls: limits and two blocks, and what is answered.
 
 use std::fmt::Display;
+use std::ops::RangeInclusive;
 
 use crate::generate::{
     faulty_block, faulty_limits, limits, machine_m, path, tiny_limits, BLOCK_FAULTS,
@@ -166,14 +167,18 @@ fn document() -> Vec<Case> {
 }
 
 /// The ends of a range, one beyond each, and the greatest word.
-fn ends(range: std::ops::RangeInclusive<u64>) -> [u64; 5] {
+fn ends(range: RangeInclusive<u64>) -> [u64; 5] {
     let (low, high) = (*range.start(), *range.end());
     [low.saturating_sub(1), low, high, high + 1, u64::MAX]
 }
 
+/// A field of the limits, and one of a block.
+type LimitField = fn(&mut Limits) -> &mut u64;
+type BlockField = fn(&mut Block) -> &mut u64;
+
 /// Each limit at its ends and beyond, the others being machine M's.
 fn limit_ends() -> Vec<Case> {
-    let fields: [(fn(&mut Limits) -> &mut u64, _); 9] = [
+    let fields: [(LimitField, _); 9] = [
         (|l| &mut l.accel[0], range::ACCEL),
         (|l| &mut l.accel[1], range::ACCEL),
         (|l| &mut l.accel[2], range::ACCEL),
@@ -216,7 +221,7 @@ fn block_ends() -> Vec<Case> {
             cases.push(case);
         }
     }
-    let fields: [(fn(&mut Block) -> &mut u64, _); 3] = [
+    let fields: [(BlockField, _); 3] = [
         (|b| &mut b.feed, range::FEED),
         (|b| &mut b.radius, range::RADIUS),
         (|b| &mut b.mark, range::MARK),
@@ -299,7 +304,7 @@ fn anywhere(rng: &mut Rng) -> Case {
 
 /// A block with each field anywhere in its range.
 fn any_block(rng: &mut Rng) -> Block {
-    let mut field = |range: std::ops::RangeInclusive<u64>| rng.spread(*range.start(), *range.end());
+    let mut field = |range: RangeInclusive<u64>| rng.spread(*range.start(), *range.end());
     let (feed, radius, mark) = (field(range::FEED), field(range::RADIUS), field(range::MARK));
     let mut moves = [(); 3].map(|_| rng.spread(0, 1_000_000) as i64 * rng.pick(&[-1, 1]));
     if moves == [0; 3] {
