@@ -115,25 +115,17 @@ fn limits_of(w: [u64; WORDS]) -> Limits {
     }
 }
 
-fn first_block(w: [u64; WORDS]) -> Block {
+// The block whose six words begin at `at`.
+fn block_at(w: [u64; WORDS], at: usize) -> Block
+    requires { ⌜ at < 16 ⌝ }
+{
     Block {
-        x: signed(w[9]),
-        y: signed(w[10]),
-        z: signed(w[11]),
-        feed: w[12],
-        radius: w[13],
-        mark: w[14],
-    }
-}
-
-fn second_block(w: [u64; WORDS]) -> Block {
-    Block {
-        x: signed(w[15]),
-        y: signed(w[16]),
-        z: signed(w[17]),
-        feed: w[18],
-        radius: w[19],
-        mark: w[20],
+        x: signed(w[at]),
+        y: signed(w[at + 1]),
+        z: signed(w[at + 2]),
+        feed: w[at + 3],
+        radius: w[at + 4],
+        mark: w[at + 5],
     }
 }
 
@@ -194,8 +186,8 @@ fn put_cap_answer(out: &mut [u8], at: usize, answer: CapAnswer) -> usize {
 // The answer of a whole case.
 fn put_case(out: &mut [u8], at: usize, w: [u64; WORDS]) -> usize {
     let l = limits_of(w);
-    let a = first_block(w);
-    let b = second_block(w);
+    let a = block_at(w, 9);
+    let b = block_at(w, 15);
     let first = put_numbers_answer(out, at, numbers_answer(l, a));
     let parted = put(out, first, b" | ");
     let second = put_numbers_answer(out, parted, numbers_answer(l, b));
