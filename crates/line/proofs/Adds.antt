@@ -15,12 +15,13 @@ use Rattle.profile.specs.Line.{Step, noStep, stepAt, capAt, reachAt}
 use Rattle.profile.specs.Passes.{startLimit, CanBrake}
 use Rattle.profile.proofs.Brake.{add-keeps}
 use Rattle.profile.proofs.Kept.{Extended, extended-first}
+use Rattle.machine.specs.Answers.{firstOf}
 use Rattle.machine.specs.Checks.{blockRefusal, pick}
 use Rattle.machine.specs.Line.{stepsOf}
 use Rattle.machine.specs.Numbers.{numbersOf, blockCap}
 use Rattle.machine.specs.declared.Block.{Block}
 use Rattle.machine.specs.declared.Limits.{Limits}
-use Rattle.line.specs.Blocks.{mostHeld, Line, add, addRefusal, addAnswer, addAfter, orElse, lineAnswer, lineAfter}
+use Rattle.line.specs.Blocks.{mostHeld, Line, add, addRefusal, addAnswer, addAfter, lineAnswer, lineAfter}
 use Rattle.line.specs.Ring.{Place, Ring, cutLimits, slot, placeAt, blockIn, numbersIn, placeOf, junctionAfter, newJunction, walkBack, putLast, addedIn, ringAnswer, ringAfter}
 use Rattle.line.specs.Holds.{noBlock, blockAt, keptAt, Placed, Holds}
 use Rattle.machine.proofs.Steps.{steps-length, steps-first, steps-cap}
@@ -210,7 +211,7 @@ module _ {r : Ring} {line : Line} (b : Block) (h : Holds r line) (passed : block
 not-refused : (held : ℕ) (b : Block) → addRefusal held b ≡ 0 → (blockRefusal b ≡ 0) × (held < mostHeld)
 not-refused held b = go (blockRefusal b) (leb mostHeld held) refl
   where
-    go : (n : ℕ) (t : Bool) → leb mostHeld held ≡ t → orElse n (pick t 7 0) ≡ 0 → (n ≡ 0) × (held < mostHeld)
+    go : (n : ℕ) (t : Bool) → leb mostHeld held ≡ t → firstOf n (pick t 7 0) ≡ 0 → (n ≡ 0) × (held < mostHeld)
     go zero true f e = absurd (omega arith)
     go zero false f e = (refl, leb-false mostHeld held f)
     go (suc n) t f e = absurd (omega arith)

@@ -6,6 +6,7 @@ use lib.Dec.{leb}
 use lib.ListN.{length}
 use Rattle.profile.specs.Line.{numberAt}
 use Rattle.profile.specs.Passes.{planOf}
+use Rattle.machine.specs.Answers.{firstOf}
 use Rattle.machine.specs.Checks.{blockRefusal, pick}
 use Rattle.machine.specs.Line.{stepsOf}
 use Rattle.machine.specs.declared.Block.{Block}
@@ -31,14 +32,9 @@ pub data Call : Type 0 where
   add : Block → Call
   take : Call
 
--- the first of two numbers that is not 0
-abbrev pub orElse : ℕ → ℕ → ℕ
-orElse zero m = m
-orElse (suc n) m = suc n
-
 -- an add is refused by the first of 2 to 6 that its block meets, else by 7 if the line has 64 blocks
 abbrev pub addRefusal : (held : ℕ) → Block → ℕ
-addRefusal held b = orElse (blockRefusal b) (pick (leb mostHeld held) 7 0)
+addRefusal held b = firstOf (blockRefusal b) (pick (leb mostHeld held) 7 0)
 
 -- the plan of the line: its highest lawful profile
 abbrev pub linePlan : Line → List ℕ

@@ -4,7 +4,7 @@ use mathlib.Core.Path.{_≡_, refl, sym, subst}
 use mathlib.Core.List.{List, [], _∷_}
 use mathlib.Core.Bool.{Bool, true, _&&_}
 use Prim.Native.Nat.{ℕ, zero, suc, _-_, _*_, _/_, _≤_, _<_, max}
-use native.Mathlib.Nat.{le-refl, le-trans, le-of-lt, lt-of-not-le, mul-le-mul, mul-le-mul-left, mul-le-mul-right, le-max-left, max-le, max-eq-left, max-eq-right, mul-comm, mul-assoc, mul-pos, le-of-mul-le-mul-right, div-le-of-le-mul}
+use native.Mathlib.Nat.{le-trans, le-of-lt, lt-of-not-le, mul-le-mul, mul-le-mul-left, mul-le-mul-right, le-max-left, max-le, max-eq-left, max-eq-right, mul-comm, mul-left-comm, mul-assoc, mul-pos, le-of-mul-le-mul-right, div-le-of-le-mul}
 use native.Mathlib.Decide.{decLe}
 use native.Mathlib.Omega.{arith}
 use borrow.Author.Tests.{leb-true}
@@ -67,12 +67,13 @@ one-allowed high limits m h =
 pub speed-above : (l : Limits) (b : Block) → limitsRefusal l ≡ 0 → blockRefusal b ≡ 0 → 1 ≤ speedOf l b
 speed-above l b h g = speed-largest l b .most 1 (in-range b g .feed-above, one-allowed mostSpeed (l .speed) (movesOf b) (limits-in l h .speed-in))
 
--- a rate that an axis with a move allows is at most twice the limit, where the length is at most twice that move
-rate-double : (rate limit high length part : ℕ) → 0 < part → limit ≤ high → length ≤ 2 * part → rate * part ≤ limit * length → rate ≤ 2 * high
-rate-double rate limit high length part p h s e =
-    le-of-mul-le-mul-right {k = part} (le-trans e (le-trans (mul-le-mul h s) (omega (arith, mul-comm high (2 * part), mul-assoc 2 part high, mul-comm part high, mul-assoc 2 high part)))) p
+-- a rate whose product with a move is at most a limit times the length is at most twice the limit, where the length is at most
+-- twice the move
+rate-double : (rate limit length part : ℕ) → 0 < part → length ≤ 2 * part → rate * part ≤ limit * length → rate ≤ 2 * limit
+rate-double rate limit length part p s e =
+    le-of-mul-le-mul-right {k = part} (le-trans e (le-trans (mul-le-mul-left limit s) (omega (arith, mul-left-comm limit 2 part, mul-assoc 2 limit part)))) p
 
--- what holds of three numbers holds of the greatest
+-- what holds of two numbers holds of the larger
 larger-of : (P : ℕ → Type 0) (x y : ℕ) → P x → P y → P (max x y)
 larger-of P x y a b = elim (decLe y x) [ yes h ↦ subst P (sym (max-eq-left h)) a | no h ↦ subst P (sym (max-eq-right (le-of-lt (lt-of-not-le h)))) b ]
 
@@ -91,7 +92,7 @@ axis-accel-largest l b h g =
     let moves = in-range b g .moves in
     record {
       has = each .has .1;
-      most = λ p a. each .most p (rate-double p mostAccel mostAccel (lengthOf b) (unit * greatestMove b) (mul-pos {m = unit} (lit< tt) moves) (le-refl mostAccel) (length-within b) (at p a), a);
+      most = λ p a. each .most p (rate-double p mostAccel (lengthOf b) (unit * greatestMove b) (mul-pos {m = unit} (lit< tt) moves) (length-within b) (at p a), a);
     }
 
 -- it is at least 1

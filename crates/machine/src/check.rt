@@ -1,6 +1,6 @@
 // The checks of limits and of a block, in the order of the numbers on the display.
 ghost use mathlib.Core.Path.{_≡_};
-ghost use Rattle.machine.specs.Checks.{axesWithin, blockRefusal, checkedNumber, greatestMove, limitsRefusal, within};
+ghost use Rattle.machine.specs.Checks.{axesWithin, blockRefusal, checkedNumber, greatestMove, limitsRefusal, refusalNumber, within};
 use crate::Axes;
 use crate::Block;
 use crate::Checked;
@@ -29,6 +29,25 @@ pub const MOST_FEED: u64 = 1_000_000;
 pub const MOST_RADIUS: u64 = 10_000_000;
 // Greatest mark.
 pub const MOST_MARK: u64 = 2_097_151;
+
+// The number on the display.
+pub fn refusal_number(why: Refusal) -> u64
+    ensures { λ r. ⌜ r ≡ refusalNumber why ⌝ }
+{
+    match why {
+        Refusal::Limits => 1,
+        Refusal::Still => 2,
+        Refusal::Long => 3,
+        Refusal::Feed => 4,
+        Refusal::Radius => 5,
+        Refusal::Mark => 6,
+        Refusal::Full => 7,
+        Refusal::Empty => 8,
+        Refusal::Ragged => 9,
+        Refusal::Many => 10,
+        Refusal::List => 11,
+    }
+}
 
 // Whether a value is from `low` to `high`.
 fn is_within(low: u64, high: u64, value: u64) -> bool

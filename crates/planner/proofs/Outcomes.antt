@@ -7,6 +7,7 @@ use borrow.Author.Tests.{le-leb, lt-leb, eq-eqb, ne-eqb}
 use native.Mathlib.Omega.{arith}
 use lib.Dec.{lit<, leb, eqb}
 use lib.ListN.{length}
+use Rattle.machine.specs.Answers.{firstOf}
 use Rattle.machine.specs.Checks.{refusalNumber, limitsRefusal, blockRefusal, pick}
 use Rattle.machine.specs.declared.Block.{Block}
 use Rattle.machine.specs.declared.Limits.{Limits}
@@ -14,7 +15,7 @@ use Rattle.machine.specs.declared.Refusal.{Refusal}
 use Rattle.machine.specs.declared.Refusal.the-variants as why
 use Rattle.line.specs.declared.Given.{Given}
 use Rattle.line.specs.Answers.{Answer, accepted, gave, refused}
-use Rattle.line.specs.Blocks.{mostHeld, add, take, orElse, addRefusal, addAnswer}
+use Rattle.line.specs.Blocks.{mostHeld, add, take, addRefusal, addAnswer}
 use Rattle.line.specs.Ring.{Ring, putLast, addedIn, givenIn, takenFrom, takenAnswer, takenIn, ringAnswer, ringAfter, toldOf, shownIn, showRefusal}
 use Rattle.planner.specs.View.{memorySize, viewOf}
 use Rattle.planner.specs.Calls.{Memory, GaveFirst, Called, Freshened, freshIn, Showed, shownList}
@@ -62,21 +63,21 @@ refused-by m b n sized h e =
 module _ (m : List ℕ) (b : Block) (sized : length m ≡ memorySize) where
   -- The block is refused,
   pub add-refused : (n : ℕ) → 0 < n → n ≡ blockRefusal b → Called m (add b) (refused n) m
-  add-refused n h e = refused-by m b n sized h (first n _ h ∙ ap (λ (k : ℕ). orElse k (pick (leb mostHeld (viewOf m .count)) 7 0)) e)
+  add-refused n h e = refused-by m b n sized h (first n _ h ∙ ap (λ (k : ℕ). firstOf k (pick (leb mostHeld (viewOf m .count)) 7 0)) e)
     where
-      first : (n k : ℕ) → 0 < n → n ≡ orElse n k
+      first : (n k : ℕ) → 0 < n → n ≡ firstOf n k
       first zero k h = absurd (omega arith)
       first (suc n) k h = refl
 
   -- all places are taken,
   pub add-full : 0 ≡ blockRefusal b → mostHeld ≤ viewOf m .count → Called m (add b) (refused 7) m
-  add-full e full = refused-by m b 7 sized (lit< tt) (sym (λ i. orElse (sym e i) (pick (le-leb mostHeld (viewOf m .count) full i) 7 0)))
+  add-full e full = refused-by m b 7 sized (lit< tt) (sym (λ i. firstOf (sym e i) (pick (le-leb mostHeld (viewOf m .count) full i) 7 0)))
 
   -- or the block is put last.
   pub add-put : (m′ : List ℕ) → 0 ≡ blockRefusal b → viewOf m .count < mostHeld → Memory (putLast (viewOf m) b) m′ → Called m (add b) accepted m′
   unfolding ringAnswer ringAfter
   add-put m′ e room held =
-      let none = sym (ap (λ (k : ℕ). orElse k (pick (leb mostHeld (viewOf m .count)) 7 0)) (sym e) ∙ ap (λ (t : Bool). pick t 7 0) (lt-leb mostHeld (viewOf m .count) room)) in
+      let none = sym (ap (λ (k : ℕ). firstOf k (pick (leb mostHeld (viewOf m .count)) 7 0)) (sym e) ∙ ap (λ (t : Bool). pick t 7 0) (lt-leb mostHeld (viewOf m .count) room)) in
       record { sized = held .sized; answer = ap addAnswer none; after = held .view ∙ ap (λ (k : ℕ). addedIn k (viewOf m) b) none }
 
 module _ (m : List ℕ) where

@@ -15,6 +15,7 @@ pub mod incremental;
 pub mod line;
 pub mod listing;
 pub mod machine;
+pub mod machine_cases;
 pub mod plan;
 pub mod quick;
 pub mod refusal;

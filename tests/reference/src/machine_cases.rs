@@ -1,0 +1,319 @@
+//! Cases for the machine's calls: limits and two blocks, and what is answered.
+
+use std::fmt::Display;
+use std::ops::RangeInclusive;
+
+use crate::generate::{
+    faulty_block, faulty_limits, limits, machine_m, path, tiny_limits, BLOCK_FAULTS,
+};
+use crate::machine::{check_block, check_limits, junction_cap, range, Block, Limits, Numbers};
+use crate::refusal::Refusal;
+use crate::rng::Rng;
+
+/// Numbers of a case in text: nine limits and two blocks of six fields.
+const WORDS: usize = 21;
+
+/// Limits and two blocks, one after the other.
+#[derive(Clone, Copy, Debug, PartialEq, Eq)]
+pub struct Case {
+    pub limits: Limits,
+    pub before: Block,
+    pub after: Block,
+}
+
+impl Case {
+    /// The case as a line of words of 64 bits in two's complement.
+    pub fn line(&self) -> String {
+        let l = &self.limits;
+        let mut words: Vec<i64> = Vec::with_capacity(WORDS);
+        let rest = [l.jump, l.chord, l.tick];
+        words.extend(
+            l.accel
+                .iter()
+                .chain(&l.speed)
+                .chain(&rest)
+                .map(|w| *w as i64),
+        );
+        for block in [&self.before, &self.after] {
+            words.extend(block.moves);
+            words.extend([block.feed, block.radius, block.mark].map(|w| w as i64));
+        }
+        spaced(&words)
+    }
+
+    /// The case of such a line.
+    pub fn of_line(line: &str) -> Case {
+        let words: Vec<i64> = line
+            .split(' ')
+            .map(|w| w.parse().expect("a word"))
+            .collect();
+        assert_eq!(words.len(), WORDS);
+        let three = |k: usize| [words[k] as u64, words[k + 1] as u64, words[k + 2] as u64];
+        let [jump, chord, tick] = three(6);
+        let block = |k: usize| Block {
+            moves: [words[k], words[k + 1], words[k + 2]],
+            feed: words[k + 3] as u64,
+            radius: words[k + 4] as u64,
+            mark: words[k + 5] as u64,
+        };
+        Case {
+            limits: Limits {
+                accel: three(0),
+                speed: three(3),
+                jump,
+                chord,
+                tick,
+            },
+            before: block(9),
+            after: block(15),
+        }
+    }
+
+    /// The answer as a line: the numbers of the first block, those of the
+    /// second, and the junction cap between them, or each one's refusal.
+    pub fn answer(&self) -> String {
+        let numbers = |block| shown(self.checked(&[block]).map(|()| self.numbers(block)));
+        let cap = self
+            .checked(&[&self.before, &self.after])
+            .map(|()| junction_cap(&self.limits, &self.before, &self.after));
+        let parts = [numbers(&self.before), numbers(&self.after), shown(cap)];
+        parts.join(" | ")
+    }
+
+    /// Refusal 1, then 2 to 6 of each block in turn.
+    fn checked(&self, blocks: &[&Block]) -> Result<(), Refusal> {
+        check_limits(&self.limits)?;
+        blocks.iter().try_for_each(|block| check_block(block))
+    }
+
+    /// Length, acceleration, reach and cap of a block that passed.
+    fn numbers(&self, block: &Block) -> String {
+        let numbers = Numbers::of(&self.limits, block);
+        spaced(&[numbers.length, numbers.accel, numbers.reach, numbers.cap])
+    }
+}
+
+/// Numbers with one space between.
+fn spaced<T: Display>(numbers: &[T]) -> String {
+    let texts: Vec<String> = numbers.iter().map(T::to_string).collect();
+    texts.join(" ")
+}
+
+/// What is answered, or the refusal.
+fn shown<T: Display>(answer: Result<T, Refusal>) -> String {
+    match answer {
+        Ok(value) => value.to_string(),
+        Err(refusal) => format!("refused {}", refusal.number()),
+    }
+}
+
+/// All cases, in the order of the groups below.
+pub fn cases() -> Vec<Case> {
+    let mut rng = Rng::new(3);
+    let mut all = document();
+    all.extend(limit_ends());
+    all.extend(block_ends());
+    all.extend(torque_steps());
+    all.extend(small_blocks());
+    all.extend(faults(&mut rng));
+    all.extend((0..150).map(|_| along_a_path(&mut rng)));
+    all.extend((0..100).map(|_| anywhere(&mut rng)));
+    all
+}
+
+/// A block of document 01's proof cases: feed 20,000, no radius, no mark.
+fn block(x: i64, y: i64, z: i64) -> Block {
+    Block {
+        moves: [x, y, z],
+        feed: 20_000,
+        radius: 0,
+        mark: 0,
+    }
+}
+
+/// The first block of every pair of which only the second matters.
+fn east() -> Block {
+    block(1_000, 0, 0)
+}
+
+/// A pair on machine M.
+fn on_m(before: Block, after: Block) -> Case {
+    Case {
+        limits: machine_m(),
+        before,
+        after,
+    }
+}
+
+/// Document 01's proof cases.
+fn document() -> Vec<Case> {
+    let with_feed = |feed| Block { feed, ..east() };
+    let curved = Block {
+        radius: 1_000,
+        ..east()
+    };
+    vec![
+        on_m(block(1, 0, 0), block(1, 1, 0)),
+        on_m(block(2, 2, 1), block(1_000_000, 1_000_000, 1_000_000)),
+        on_m(block(3, 4, 0), block(3, 4, 0)),
+        on_m(east(), block(0, 1_000, 0)),
+        on_m(east(), block(-1_000, 0, 0)),
+        on_m(east(), east()),
+        on_m(curved, east()),
+        on_m(block(1_000_000, 0, 0), block(1_000_001, 0, 0)),
+        on_m(with_feed(1_000_000), with_feed(1_000_001)),
+        on_m(with_feed(0), east()),
+    ]
+}
+
+/// The ends of a range, one beyond each, and the greatest word.
+fn ends(range: RangeInclusive<u64>) -> [u64; 5] {
+    let (low, high) = (*range.start(), *range.end());
+    [low.saturating_sub(1), low, high, high + 1, u64::MAX]
+}
+
+/// A field of the limits, and one of a block.
+type LimitField = fn(&mut Limits) -> &mut u64;
+type BlockField = fn(&mut Block) -> &mut u64;
+
+/// Each limit at its ends and beyond, the others being machine M's.
+fn limit_ends() -> Vec<Case> {
+    let fields: [(LimitField, _); 9] = [
+        (|l| &mut l.accel[0], range::ACCEL),
+        (|l| &mut l.accel[1], range::ACCEL),
+        (|l| &mut l.accel[2], range::ACCEL),
+        (|l| &mut l.speed[0], range::SPEED),
+        (|l| &mut l.speed[1], range::SPEED),
+        (|l| &mut l.speed[2], range::SPEED),
+        (|l| &mut l.jump, range::JUMP),
+        (|l| &mut l.chord, range::CHORD),
+        (|l| &mut l.tick, range::TICK),
+    ];
+    let mut cases = Vec::new();
+    for (field, range) in fields {
+        for value in ends(range) {
+            let mut case = on_m(block(3, 4, 5), block(-5, 4, 3));
+            case.after.radius = 10;
+            *field(&mut case.limits) = value;
+            cases.push(case);
+        }
+    }
+    cases
+}
+
+/// Each field of a block at its ends and beyond.
+fn block_ends() -> Vec<Case> {
+    let mut cases = Vec::new();
+    let moves = [
+        -1_000_000,
+        1_000_000,
+        -1_000_001,
+        1_000_001,
+        -1_048_576,
+        1_048_575,
+        i64::MIN,
+        i64::MAX,
+    ];
+    for axis in 0..3 {
+        for value in moves {
+            let mut case = on_m(block(3, 4, 5), east());
+            case.before.moves[axis] = value;
+            cases.push(case);
+        }
+    }
+    let fields: [(BlockField, _); 3] = [
+        (|b| &mut b.feed, range::FEED),
+        (|b| &mut b.radius, range::RADIUS),
+        (|b| &mut b.mark, range::MARK),
+    ];
+    for (field, range) in fields {
+        for value in ends(range) {
+            let mut case = on_m(east(), block(3, 4, 5));
+            *field(&mut case.after) = value;
+            cases.push(case);
+        }
+    }
+    cases
+}
+
+/// The last speed of each torque step and the first of the next.
+fn torque_steps() -> Vec<Case> {
+    let fast = |feed| Block { feed, ..east() };
+    let step = |k: u64| on_m(fast(125_000 * k), fast((125_000 * k + 1).min(1_000_000)));
+    (1..=8).map(step).collect()
+}
+
+/// Blocks so short that a dropped fraction decides, and a corner cap of 0.
+fn small_blocks() -> Vec<Case> {
+    let mut slow = on_m(block(1, 0, 0), block(0, 1, 0));
+    slow.limits.jump = 1;
+    let mut weak = on_m(block(1, 1, 1), block(1, 0, 0));
+    weak.limits.accel = [1; 3];
+    weak.before.feed = 1_000_000;
+    vec![
+        on_m(block(1, 1, 1), block(1, 1, -1)),
+        on_m(block(1, 1, 1), block(-1, -1, -1)),
+        slow,
+        weak,
+    ]
+}
+
+/// Every single fault and pairs that hold at once: in the first block, in the
+/// second, in both, and with limits at fault too.
+fn faults(rng: &mut Rng) -> Vec<Case> {
+    let mut cases = Vec::new();
+    for (k, faults) in BLOCK_FAULTS.iter().enumerate() {
+        let bad = faulty_block(rng, faults, false);
+        let other = faulty_block(rng, BLOCK_FAULTS[(k + 1) % BLOCK_FAULTS.len()], false);
+        cases.push(on_m(bad, east()));
+        cases.push(on_m(east(), bad));
+        cases.push(on_m(bad, other));
+        cases.push(Case {
+            limits: faulty_limits(rng),
+            before: bad,
+            after: east(),
+        });
+    }
+    cases
+}
+
+/// Two blocks that follow each other on a path.
+fn along_a_path(rng: &mut Rng) -> Case {
+    let limits = limits(rng);
+    let blocks = path(rng, 2);
+    Case {
+        limits,
+        before: blocks[0],
+        after: blocks[1],
+    }
+}
+
+/// Limits and blocks with each field anywhere in its range.
+fn anywhere(rng: &mut Rng) -> Case {
+    let limits = if rng.once_in(8) {
+        tiny_limits(rng)
+    } else {
+        limits(rng)
+    };
+    Case {
+        limits,
+        before: any_block(rng),
+        after: any_block(rng),
+    }
+}
+
+/// A block with each field anywhere in its range.
+fn any_block(rng: &mut Rng) -> Block {
+    let mut field = |range: RangeInclusive<u64>| rng.spread(*range.start(), *range.end());
+    let (feed, radius, mark) = (field(range::FEED), field(range::RADIUS), field(range::MARK));
+    let mut moves = [(); 3].map(|_| rng.spread(0, 1_000_000) as i64 * rng.pick(&[-1, 1]));
+    if moves == [0; 3] {
+        moves[rng.below(3) as usize] = 1;
+    }
+    Block {
+        moves,
+        feed,
+        radius,
+        mark,
+    }
+}
