@@ -1,6 +1,6 @@
 -- How a check's answer decides what a call answers. Assumes nothing.
 use mathlib.Core.Path.{_≡_, refl, sym, ap, _∙_}
-use Prim.Native.Nat.{ℕ, zero, suc}
+use Prim.Native.Nat.{ℕ, zero, suc, _<_}
 use native.Mathlib.Omega.{arith}
 use Rattle.machine.specs.Checks.{refusalNumber, checkedNumber}
 use Rattle.machine.specs.Answers.{Outcome, accepted, refused, firstOf, orRefused}
@@ -22,6 +22,10 @@ refusal-number why.Empty = (7, refl)
 refusal-number why.Ragged = (8, refl)
 refusal-number why.Many = (9, refl)
 refusal-number why.List = (10, refl)
+
+-- so every refusal has a number above 0
+pub refusal-above : (r : Refusal) → 0 < refusalNumber r
+refusal-above r = omega (arith, refusal-number r .1)
 
 -- the number of an answer that is known
 told-refused : {r : Checked} {w : Refusal} {n : ℕ} → r ≡ Refused w → checkedNumber r ≡ n → n ≡ refusalNumber w

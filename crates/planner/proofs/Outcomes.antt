@@ -15,29 +15,28 @@ use Rattle.machine.specs.declared.Refusal.{Refusal}
 use Rattle.machine.specs.declared.Refusal.the-variants as why
 use Rattle.line.specs.declared.Given.{Given}
 use Rattle.line.specs.Answers.{Answer, accepted, gave, refused}
-use Rattle.line.specs.Blocks.{mostHeld, add, take, addRefusal, addAnswer}
+use Rattle.line.specs.Blocks.{mostHeld, Call, add, take, addRefusal, addAnswer}
 use Rattle.line.specs.Ring.{Ring, putLast, addedIn, givenIn, takenFrom, takenAnswer, takenIn, ringAnswer, ringAfter, toldOf, shownIn, showRefusal}
+use Rattle.line.proofs.Demand.{holds-fresh, holds-call}
+use Rattle.line.proofs.Shows.{holds-told, holds-shown, holds-highest}
 use Rattle.planner.specs.View.{memorySize, viewOf}
-use Rattle.planner.specs.Calls.{Memory, GaveFirst, Called, Freshened, freshIn, Showed, shownList}
+use Rattle.planner.proofs.View.{view-places}
+use Rattle.planner.specs.Calls.{Memory, GaveFirst, Called, Freshened, freshIn, Showed, shownList, Told}
 
--- Every refusal has a number above 0.
-pub refusal-above : (r : Refusal) → 0 < refusalNumber r
-refusal-above why.Limits = lit< tt
-refusal-above why.Still = lit< tt
-refusal-above why.Long = lit< tt
-refusal-above why.Feed = lit< tt
-refusal-above why.Radius = lit< tt
-refusal-above why.Mark = lit< tt
-refusal-above why.Full = lit< tt
-refusal-above why.Empty = lit< tt
-refusal-above why.Ragged = lit< tt
-refusal-above why.Many = lit< tt
-refusal-above why.List = lit< tt
+-- A call whose answer and memory are the ring's answers and leaves what the line says.
+called : (m m′ : List ℕ) (call : Call) (said : Answer) → length m′ ≡ memorySize → said ≡ ringAnswer (viewOf m) call → viewOf m′ ≡ ringAfter (viewOf m) call → Called m call said m′
+called m m′ call said sized answer after =
+    record {
+      sized = sized;
+      answer = answer;
+      after = after;
+      line = λ line h. let next = holds-call call h in (answer ∙ next .0, rw after (next .1));
+    }
 
 module _ (m : List ℕ) (sized : length m ≡ memorySize) (l : Limits) where
   -- Limits refused,
   pub fresh-refused : (n : ℕ) → 0 < n → n ≡ limitsRefusal l → Freshened m l n m
-  fresh-refused n h e = record { sized = sized; answer = e; after = unchanged n h ∙ ap (λ (k : ℕ). freshIn k (viewOf m) l) e }
+  fresh-refused n h e = record { sized = sized; answer = e; after = unchanged n h ∙ ap (λ (k : ℕ). freshIn k (viewOf m) l) e; line = λ z. absurd (omega arith) }
     where
       unchanged : (n : ℕ) → 0 < n → viewOf m ≡ freshIn n (viewOf m) l
       unchanged zero h = absurd (omega arith)
@@ -45,13 +44,19 @@ module _ (m : List ℕ) (sized : length m ≡ memorySize) (l : Limits) where
 
   -- and accepted.
   pub fresh-made : (m′ : List ℕ) → length m′ ≡ memorySize → 0 ≡ limitsRefusal l → viewOf m′ ≡ freshIn 0 (viewOf m) l → Freshened m l 0 m′
-  fresh-made m′ s e v = record { sized = s; answer = e; after = v ∙ ap (λ (k : ℕ). freshIn k (viewOf m) l) e }
+  fresh-made m′ s e v =
+      record {
+        sized = s;
+        answer = e;
+        after = v ∙ ap (λ (k : ℕ). freshIn k (viewOf m) l) e;
+        line = λ z. rw v (holds-fresh l (viewOf m .places) (sym e) (view-places m));
+      }
 
 -- An add that is refused by a number changes nothing.
 refused-by : (m : List ℕ) (b : Block) (n : ℕ) → length m ≡ memorySize → 0 < n → n ≡ addRefusal (viewOf m .count) b → Called m (add b) (refused n) m
 unfolding ringAnswer ringAfter
 refused-by m b n sized h e =
-    record { sized = sized; answer = answered n h ∙ ap addAnswer e; after = unchanged n h ∙ ap (λ (k : ℕ). addedIn k (viewOf m) b) e }
+    called m m (add b) (refused n) sized (answered n h ∙ ap addAnswer e) (unchanged n h ∙ ap (λ (k : ℕ). addedIn k (viewOf m) b) e)
   where
     answered : (n : ℕ) → 0 < n → refused n ≡ addAnswer n
     answered zero h = absurd (omega arith)
@@ -78,20 +83,20 @@ module _ (m : List ℕ) (b : Block) (sized : length m ≡ memorySize) where
   unfolding ringAnswer ringAfter
   add-put m′ e room held =
       let none = sym (ap (λ (k : ℕ). firstOf k (pick (leb mostHeld (viewOf m .count)) 7 0)) (sym e) ∙ ap (λ (t : Bool). pick t 7 0) (lt-leb mostHeld (viewOf m .count) room)) in
-      record { sized = held .sized; answer = ap addAnswer none; after = held .view ∙ ap (λ (k : ℕ). addedIn k (viewOf m) b) none }
+      called m m′ (add b) accepted (held .sized) (ap addAnswer none) (held .view ∙ ap (λ (k : ℕ). addedIn k (viewOf m) b) none)
 
 module _ (m : List ℕ) where
   -- A take of none,
   pub take-refused : length m ≡ memorySize → viewOf m .count ≡ 0 → Called m take (refused 8) m
   unfolding ringAnswer ringAfter
   take-refused sized e =
-      record { sized = sized; answer = ap (λ (k : ℕ). takenAnswer k (viewOf m)) (sym e); after = ap (λ (k : ℕ). takenIn k (viewOf m)) (sym e) }
+      called m m take (refused 8) sized (ap (λ (k : ℕ). takenAnswer k (viewOf m)) (sym e)) (ap (λ (k : ℕ). takenIn k (viewOf m)) (sym e))
 
   -- and of the first block.
   pub take-gave : (given : Given) (m′ : List ℕ) → 0 < viewOf m .count → GaveFirst m given m′ → Called m take (gave given) m′
   unfolding ringAnswer ringAfter
   take-gave given m′ h g =
-      record { sized = g .held .sized; answer = ap gave (g .given) ∙ answered (viewOf m .count) h; after = g .held .view ∙ left (viewOf m .count) h }
+      called m m′ take (gave given) (g .held .sized) (ap gave (g .given) ∙ answered (viewOf m .count) h) (g .held .view ∙ left (viewOf m .count) h)
     where
       answered : (n : ℕ) → 0 < n → gave (givenIn (viewOf m)) ≡ takenAnswer n (viewOf m)
       answered zero h = absurd (omega arith)
@@ -110,8 +115,20 @@ module _ (m held : List ℕ) where
 
   pub shown-all : (exit : List ℕ) → length held ≡ toldOf (viewOf m) + 1 → exit ≡ shownIn (viewOf m) → Showed m held accepted exit
   shown-all exit e s =
-      record { answer = ap addAnswer (sym (right-length e)); list = s ∙ ap (λ (k : ℕ). shownList k (viewOf m) held) (sym (right-length e)) }
+      record {
+        answer = ap addAnswer (sym (right-length e));
+        list = s ∙ ap (λ (k : ℕ). shownList k (viewOf m) held) (sym (right-length e));
+        line = λ line h n. (s ∙ holds-shown h, rw s (holds-highest h));
+      }
 
   pub shown-none : (length held ≡ toldOf (viewOf m) + 1 → ⊥) → Showed m held (refused 11) held
   shown-none e =
-      record { answer = ap addAnswer (sym (wrong-length e)); list = ap (λ (k : ℕ). shownList k (viewOf m) held) (sym (wrong-length e)) }
+      record {
+        answer = ap addAnswer (sym (wrong-length e));
+        list = ap (λ (k : ℕ). shownList k (viewOf m) held) (sym (wrong-length e));
+        line = λ line h n. absurd (e (n ∙ ap (λ (k : ℕ). k + 1) (sym (holds-told h))));
+      }
+
+-- The number told.
+pub told-is : (m : List ℕ) (n : ℕ) → n ≡ toldOf (viewOf m) → Told m n
+told-is m n e = record { number-is = e; line = λ line h. e ∙ holds-told h }

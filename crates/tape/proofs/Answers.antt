@@ -7,6 +7,7 @@ use mathlib.Core.Bool.{Bool, true, false}
 use borrow.Author.Tests.{lt-ltb, le-ltb}
 use lib.Dec.{lit<}
 use lib.ListN.{length}
+use Rattle.machine.proofs.AnswerLaws.{refusal-above}
 use Rattle.machine.specs.Checks.{pick, refusalNumber, checkedNumber}
 use Rattle.machine.specs.declared.Refusal.{Refusal}
 use Rattle.machine.specs.declared.Refusal.the-variants as why
@@ -14,20 +15,6 @@ use Rattle.machine.specs.declared.Checked.{Checked}
 use Rattle.machine.specs.declared.Checked.the-variants.{Passed}
 use Rattle.tape.specs.Tape.{recordsIn}
 use Rattle.tape.specs.Display.{byNumber, _then_, raggedBelow, given, refused, Wrote, Fault, _at_, byFault}
-
--- Every refusal has a number above 0.
-pub refusal-above : (r : Refusal) → 0 < refusalNumber r
-refusal-above why.Limits = lit< tt
-refusal-above why.Still = lit< tt
-refusal-above why.Long = lit< tt
-refusal-above why.Feed = lit< tt
-refusal-above why.Radius = lit< tt
-refusal-above why.Mark = lit< tt
-refusal-above why.Full = lit< tt
-refusal-above why.Empty = lit< tt
-refusal-above why.Ragged = lit< tt
-refusal-above why.Many = lit< tt
-refusal-above why.List = lit< tt
 
 module _ {A : Type 0} (a b : A) where
   -- Nothing refused, and something refused.

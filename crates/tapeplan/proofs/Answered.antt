@@ -13,7 +13,8 @@ use Rattle.machine.specs.declared.Refusal.{Refusal}
 use Rattle.machine.specs.declared.Refusal.the-variants as why
 use Rattle.tape.specs.Tape.{recordsIn}
 use Rattle.tape.specs.Display.{Fault, byNumber, _at_, tapeFault}
-use Rattle.tape.proofs.Answers.{refusal-above, at-zero, above-zero}
+use Rattle.machine.proofs.AnswerLaws.{refusal-above}
+use Rattle.tape.proofs.Answers.{at-zero, above-zero}
 use Rattle.tapeplan.specs.Planned.{tapeSteps, planFault, PlannedTape}
 use Rattle.tapeplan.specs.declared.TapePlanned.the-variants.{Planned, Refused}
 

@@ -1,7 +1,8 @@
 use mathlib.Core.Path.{_≡_, sym, ap, _∙_}
 use Rattle.machine.specs.Checks.{refusalNumber, checkedNumber, blockRefusal}
 use Rattle.planner.specs.View.{viewOf}
-use Rattle.planner.proofs.Outcomes.{refusal-above, add-refused, add-full, add-put}
+use Rattle.machine.proofs.AnswerLaws.{refusal-above}
+use Rattle.planner.proofs.Outcomes.{add-refused, add-full, add-put}
 use borrow.Author.Needs.{needs}
 use Rattle.planner.proofs.ring.add_in.Statement.{statement}
 use Rattle.planner.proofs.ring.add_in.Tie as tie

@@ -5,7 +5,8 @@ use lib.Seq.{length-sets}
 use Rattle.machine.specs.Checks.{refusalNumber, checkedNumber}
 use Rattle.planner.specs.View.{limitNumbers, viewOf}
 use Rattle.planner.proofs.View.{view-fresh}
-use Rattle.planner.proofs.Outcomes.{refusal-above, fresh-refused, fresh-made}
+use Rattle.machine.proofs.AnswerLaws.{refusal-above}
+use Rattle.planner.proofs.Outcomes.{fresh-refused, fresh-made}
 use borrow.Author.Needs.{needs}
 use Rattle.planner.proofs.ring.fresh_in.Statement.{statement}
 use Rattle.planner.proofs.ring.fresh_in.Tie as tie

@@ -6,7 +6,8 @@ use Rattle.machine.specs.Checks.{checkedNumber, blockRefusal}
 use Rattle.machine.specs.declared.Refusal.the-variants as why
 use Rattle.machine.specs.declared.Checked.the-variants.{Refused}
 use Rattle.tape.specs.Display.{recordWritten}
-use Rattle.tape.proofs.Answers.{refusal-above, enough, too-few, wrote-none, wrote-all}
+use Rattle.machine.proofs.AnswerLaws.{refusal-above}
+use Rattle.tape.proofs.Answers.{enough, too-few, wrote-none, wrote-all}
 use Rattle.tape.proofs.Checks.{record-fields, record-room}
 use Rattle.tape.proofs.Fits.{block-fits}
 use borrow.Author.Needs.{needs}

@@ -5,7 +5,8 @@ use native.Mathlib.Omega.{arith}
 use Rattle.machine.specs.Checks.{checkedNumber, blockRefusal}
 use Rattle.tape.specs.Tape.{recordAt}
 use Rattle.tape.specs.Display.{_at_, checkRecords}
-use Rattle.tape.proofs.Answers.{refusal-above, faulty, faultless}
+use Rattle.machine.proofs.AnswerLaws.{refusal-above}
+use Rattle.tape.proofs.Answers.{faulty, faultless}
 use Rattle.tape.proofs.Faults.{part-record, PassedBefore, passed-none, passed-next, fault-at, fault-none}
 use borrow.Author.Needs.{needs}
 use Rattle.tape.proofs.whole.check_records.Statement.{statement}

@@ -7,7 +7,8 @@ use lib.ListN.{length, length-set}
 use Rattle.machine.specs.Checks.{blockRefusal, checkedNumber}
 use Rattle.tape.specs.Tape.{recordAt}
 use Rattle.tape.specs.Display.{Fault, _at_, checkRecords}
-use Rattle.tape.proofs.Answers.{refusal-above, faulty, faultless}
+use Rattle.machine.proofs.AnswerLaws.{refusal-above}
+use Rattle.tape.proofs.Answers.{faulty, faultless}
 use Rattle.tape.proofs.Faults.{part-record, passed-none, fault-at, fault-none}
 use Rattle.tapeplan.proofs.Surveys.{Surveying, survey-next, survey-all}
 use borrow.Author.Needs.{needs}

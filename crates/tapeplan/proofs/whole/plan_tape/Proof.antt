@@ -4,7 +4,6 @@ use Prim.Native.Nat.{ℕ}
 use borrow.Author.Needs.{needs}
 use Rattle.machine.specs.Checks.{refusalNumber}
 use Rattle.tape.specs.Display.{_at_, limitsAnswer}
-use Rattle.tape.proofs.Answers.{refusal-above}
 use Rattle.tape.proofs.Checks.{head-given, head-refused}
 use Rattle.tape.proofs.Faults.{fault-head}
 use Rattle.tapeplan.proofs.Answered.{tape-refused}
