@@ -6,3 +6,4 @@ pub mod Words
 pub mod Stored
 pub mod Trips
 pub mod Faults
+mod Cases
