@@ -21,7 +21,13 @@ sets-all vs l e =
 
 -- A call by its number,
 pub exported : {m m′ : List ℕ} {call : Call} {said : Answer} (n : ℕ) → Called m call said m′ → n ≡ answerNumber said → Exported m call n m′
-exported n c e = record { sized = c .sized; number-is = e ∙ ap answerNumber (c .answer); after = c .after }
+exported n c e =
+    record {
+      sized = c .sized;
+      number-is = e ∙ ap answerNumber (c .answer);
+      after = c .after;
+      line = λ line h. let said = c .line line h in (e ∙ ap answerNumber (said .0), said .1);
+    }
 
 -- with what is lent to it,
 pub lent : {m m′ : List ℕ} {call : Call} {said : Answer} → Called m call said m′ → (moves moves′ : List ℤ) (numbers numbers′ : List ℕ)

@@ -6,7 +6,8 @@ use lib.IntN.{ℤ}
 use lib.ListN.{length}
 use Rattle.line.specs.declared.Given.{Given}
 use Rattle.line.specs.Answers.{Answer, accepted, gave, refused}
-use Rattle.line.specs.Blocks.{Call}
+use Rattle.line.specs.Blocks.{Call, Line, lineAnswer, lineAfter}
+use Rattle.line.specs.Holds.{Holds}
 use Rattle.line.specs.Ring.{ringAnswer, ringAfter, showRefusal}
 use Rattle.planner.specs.Calls.{shownList}
 use Rattle.planner.specs.View.{memorySize, viewOf}
@@ -52,6 +53,7 @@ pub record Exported (entry : List ℕ) (call : Call) (number : ℕ) (exit : List
   pub sized : length exit ≡ memorySize
   pub number-is : number ≡ answerNumber (ringAnswer (viewOf entry) call)
   pub after : viewOf exit ≡ ringAfter (viewOf entry) call
+  pub line : (line : Line) → Holds (viewOf entry) line → (number ≡ answerNumber (lineAnswer line call)) × Holds (viewOf exit) (lineAfter line call)
 
 -- a block given out in lent lists
 pub record Gave (g : Given) (moves : List ℤ) (numbers : List ℕ) : Type 0 where

@@ -6,8 +6,8 @@ ghost use lib.ListN.{length};
 ghost use Rattle.machine.specs.Checks.{checkedNumber, refusalNumber};
 ghost use Rattle.line.specs.Answers.{addMeans, showMeans};
 ghost use Rattle.line.specs.Blocks as blocks;
-ghost use Rattle.line.specs.Ring.{ringAnswer, toldOf};
-ghost use Rattle.planner.specs.Calls.{Freshened};
+ghost use Rattle.line.specs.Ring.{ringAnswer};
+ghost use Rattle.planner.specs.Calls.{Freshened, Told};
 ghost use Rattle.planner.specs.Exports.{Exported, Gave, Lent, Listed, answerNumber};
 ghost use Rattle.planner.specs.View.{limitsFrom, viewOf};
 use crate::NUMBERS;
@@ -178,7 +178,7 @@ pub extern "C" fn fullerecru_take(
 // How many blocks are held.
 #[no_mangle]
 pub extern "C" fn fullerecru_told(memory: &[u64; NUMBERS]) -> u64
-    ensures { λ r. ⌜ r ≡ toldOf (viewOf (now (memory .entry))) ⌝ }
+    ensures { λ r. ⌜ Told (now (memory .entry)) r ⌝ }
 {
     told(memory)
 }

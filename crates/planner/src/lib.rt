@@ -1,13 +1,11 @@
 // A planner of at most 64 blocks in 780 numbers that the caller lends. Every content of the memory
 // is answered: nothing is required of it. What the calls answer and leave is in specs/Calls.antt.
-ghost use mathlib.Core.Path.{_≡_};
 ghost use lib.ListN.{replicate};
 ghost use Rattle.machine.specs.Checks.{checkedNumber};
 ghost use Rattle.line.specs.Answers.{addMeans, showMeans, takeMeans};
 ghost use Rattle.line.specs.Blocks as blocks;
-ghost use Rattle.line.specs.Ring.{toldOf};
-ghost use Rattle.planner.specs.Calls.{Called, Freshened, Showed};
-ghost use Rattle.planner.specs.View.{memorySize, viewOf};
+ghost use Rattle.planner.specs.Calls.{Called, Freshened, Showed, Told};
+ghost use Rattle.planner.specs.View.{memorySize};
 use line::AddAnswer;
 use line::ShowAnswer;
 use line::TakeAnswer;
@@ -46,7 +44,7 @@ pub fn take(memory: &mut [u64; NUMBERS]) -> TakeAnswer
 
 // How many blocks are held.
 pub fn told(memory: &[u64; NUMBERS]) -> u64
-    ensures { λ r. ⌜ r ≡ toldOf (viewOf (now (memory .entry))) ⌝ }
+    ensures { λ r. ⌜ Told (now (memory .entry)) r ⌝ }
 {
     ring::told_in(memory)
 }
@@ -127,7 +125,7 @@ impl Planner {
     }
 
     pub fn told(self) -> u64
-        ensures { λ r. ⌜ r ≡ toldOf (viewOf (self .numbers)) ⌝ }
+        ensures { λ r. ⌜ Told (self .numbers) r ⌝ }
     {
         told(&self.numbers)
     }

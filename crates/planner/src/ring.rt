@@ -8,8 +8,8 @@ ghost use Rattle.machine.specs.Checks.{blockRefusal, checkedNumber, movesOf, pi
 ghost use Rattle.machine.specs.Numbers.{AxesBelow, LimitsBelow};
 ghost use Rattle.line.specs.Answers.{addMeans, showMeans, takeMeans};
 ghost use Rattle.line.specs.Blocks.{add, take};
-ghost use Rattle.line.specs.Ring.{junctionAfter, placeAt, putLast, speedsFrom, toldOf, walkBack};
-ghost use Rattle.planner.specs.Calls.{Called, Freshened, GaveFirst, Memory, Showed};
+ghost use Rattle.line.specs.Ring.{junctionAfter, placeAt, putLast, speedsFrom, walkBack};
+ghost use Rattle.planner.specs.Calls.{Called, Freshened, GaveFirst, Memory, Showed, Told};
 ghost use Rattle.planner.specs.View.{memorySize, viewOf};
 use crate::memory::CAP;
 use crate::memory::COMMITTED;
@@ -151,7 +151,7 @@ pub fn take_in(memory: &mut [u64]) -> TakeAnswer
 // How many blocks are held.
 pub fn told_in(memory: &[u64]) -> u64
     requires { ⌜ length (now memory) ≡ memorySize ⌝ }
-    ensures { λ r. ⌜ r ≡ toldOf (viewOf (now (memory .entry))) ⌝ }
+    ensures { λ r. ⌜ Told (now (memory .entry)) r ⌝ }
 {
     smaller(memory[COUNT], PLACES)
 }

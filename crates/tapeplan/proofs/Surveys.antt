@@ -17,7 +17,7 @@ use Rattle.machine.specs.declared.Limits.{Limits}
 use Rattle.machine.specs.declared.Numbers.{Numbers}
 use Rattle.machine.proofs.Steps.{steps-length, steps-first, steps-cap, steps-reach}
 use Rattle.tape.specs.Tape.{recordAt, recordsIn, tapeBlocks}
-use Rattle.tape.proofs.Faults.{length-blocks, drop-blocks, Passed, passed-next}
+use Rattle.tape.proofs.Faults.{length-blocks, drop-blocks, PassedBefore, passed-next}
 use Rattle.tapeplan.specs.Lent.{lineOf}
 use Rattle.tapeplan.proofs.Filled.{Filled, filled-more, filled-line}
 
@@ -43,7 +43,7 @@ module _ (l : Limits) (s : List ℕ) where
 
   -- the first k records have passed, and the lists have their caps and reaches
   pub record Surveying (caps reaches : List ℕ) (before : Block) (known : Numbers) (k : ℕ) : Type 0 where
-    pub passed : Passed s k
+    pub passed : PassedBefore s k
     pub capped : Filled caps k (capAt steps)
     pub reached : Filled reaches k (reachAt steps)
     pub previous : 0 < k → (before ≡ recordAt s (k - 1)) × (blockRefusal before ≡ 0) × (known ≡ numbersOf l before)

@@ -34,7 +34,7 @@ returns c =
     let i = h .before .before in
     let s = i .before .before .before .before in
     let m = viewOf (s .args .memory .now) in
-    let told = i .before .told-in .ensures in
+    let told = i .before .told-in .ensures .number-is in
     shown-all (s .args .memory .now) (s .args .list .now) (h .show .last .1 .0) (i .if1 .taken ∙ ap (λ (n : ℕ). n + 1) told)
     (h .show .ensures ∙ ap (λ (n : ℕ). speedsFrom m n 0 (m .committed)) told)
 
@@ -42,7 +42,7 @@ returns c =
 returns-2 : tie.Need-returns-2
 returns-2 c =
     let s = c .before .before .before .before in
-    shown-none (s .args .memory .now) (s .args .list .now) (λ e. c .if1 .left (e ∙ ap (λ (n : ℕ). n + 1) (sym (c .before .told-in .ensures))))
+    shown-none (s .args .memory .now) (s .args .list .now) (λ e. c .if1 .left (e ∙ ap (λ (n : ℕ). n + 1) (sym (c .before .told-in .ensures .number-is))))
 
 pub show-in-spec : {M : Type 1} → statement M
 show-in-spec =
