@@ -55,6 +55,7 @@ refused-by m b n sized h e =
     answered : (n : ℕ) → 0 < n → refused n ≡ addAnswer n
     answered zero h = absurd (omega arith)
     answered (suc n) h = refl
+
     unchanged : (n : ℕ) → 0 < n → viewOf m ≡ addedIn n (viewOf m) b
     unchanged zero h = absurd (omega arith)
     unchanged (suc n) h = refl
@@ -95,6 +96,7 @@ module _ (m : List ℕ) where
       answered : (n : ℕ) → 0 < n → gave (givenIn (viewOf m)) ≡ takenAnswer n (viewOf m)
       answered zero h = absurd (omega arith)
       answered (suc n) h = refl
+
       left : (n : ℕ) → 0 < n → takenFrom (viewOf m) ≡ takenIn n (viewOf m)
       left zero h = absurd (omega arith)
       left (suc n) h = refl

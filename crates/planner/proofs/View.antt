@@ -297,6 +297,7 @@ view-determines a b p q e = ext-getD 0 a b (p ∙ sym q) each
         sym (numbers-at a (baseOf i) j g)
         ∙ ap (λ (s : Place). getD (numbersFor s) j 0) (sym (view-place a i h) ∙ ap (λ (r : Ring). getD (r .places) i noPlace) e ∙ view-place b i h)
         ∙ numbers-at b (baseOf i) j g
+
     each : (k : ℕ) → k < length a → getD a k 0 ≡ getD b k 0
     each k h = go (ltb k headSize) refl
       where

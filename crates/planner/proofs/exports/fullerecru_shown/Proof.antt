@@ -1,25 +1,18 @@
-use Rattle.planner.proofs.Displayed.{listed}
+-- `planner::exports::fullerecru_shown`: the promise of `shown`, by its number. Assumes nothing.
 use borrow.Author.Needs.{needs}
+use Rattle.planner.proofs.Displayed.{listed}
 use Rattle.planner.proofs.exports.fullerecru_shown.Statement.{statement}
 use Rattle.planner.proofs.exports.fullerecru_shown.Tie as tie
-use Rattle.planner.proofs.exports.fullerecru_shown.Reads as reads
-use Rattle.planner.proofs.exports.fullerecru_shown.Lts as lts
-use Rattle.planner.proofs.exports.shown_number.Reads as shown-number-reads
-use Rattle.planner.proofs.shown.Reads as shown-reads
 
--- src/exports.rt:192:18
 shown-requires : tie.Need-shown-requires
 shown-requires c κs = search needs
 
--- src/exports.rt:192:5
 shown-number-requires : tie.Need-shown-number-requires
 shown-number-requires c κs = search needs
 
--- src/exports.rt:188:1
 same-length : tie.Need-same-length
 same-length c = search needs
 
--- src/exports.rt:188:1
 returns : tie.Need-returns
 returns c = listed (c .shown-number .result) (c .before .before .before .shown .ensures) (c .shown-number .ensures)
 
