@@ -15,7 +15,6 @@ use machine::Block;
 use machine::Checked;
 use machine::Limits;
 
-pub mod exports;
 mod memory;
 mod ring;
 

@@ -1,12 +1,12 @@
--- `planner::exports::fullerecru_take`: the promise of `take`, by its number, with the lent lists. Assumes nothing.
+-- `planner_c::fullerecru_take`: the promise of `take`, by its number, with the lent lists. Assumes nothing.
 use mathlib.Core.Path.{sym, ap, _∙_}
 use borrow.Author.Needs.{needs}
 use Rattle.line.specs.Answers.{takeMeans}
 use Rattle.line.specs.declared.TakeAnswer.{TakeAnswer}
-use Rattle.planner.specs.Exports.{answerNumber, movesAfter, numbersAfter}
-use Rattle.planner.proofs.Displayed.{exported, lent}
-use Rattle.planner.proofs.exports.fullerecru_take.Statement.{statement}
-use Rattle.planner.proofs.exports.fullerecru_take.Tie as tie
+use Rattle.planner_c.specs.Exports.{answerNumber, movesAfter, numbersAfter}
+use Rattle.planner_c.proofs.Displayed.{exported, lent}
+use Rattle.planner_c.proofs.fullerecru_take.Statement.{statement}
+use Rattle.planner_c.proofs.fullerecru_take.Tie as tie
 
 take-requires : tie.Need-take-requires
 take-requires c κs = search needs

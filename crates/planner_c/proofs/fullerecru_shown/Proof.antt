@@ -1,8 +1,8 @@
--- `planner::exports::fullerecru_shown`: the promise of `shown`, by its number. Assumes nothing.
+-- `planner_c::fullerecru_shown`: the promise of `shown`, by its number. Assumes nothing.
 use borrow.Author.Needs.{needs}
-use Rattle.planner.proofs.Displayed.{listed}
-use Rattle.planner.proofs.exports.fullerecru_shown.Statement.{statement}
-use Rattle.planner.proofs.exports.fullerecru_shown.Tie as tie
+use Rattle.planner_c.proofs.Displayed.{listed}
+use Rattle.planner_c.proofs.fullerecru_shown.Statement.{statement}
+use Rattle.planner_c.proofs.fullerecru_shown.Tie as tie
 
 shown-requires : tie.Need-shown-requires
 shown-requires c κs = search needs

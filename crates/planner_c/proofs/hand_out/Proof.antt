@@ -1,4 +1,4 @@
--- `planner::exports::hand_out`: both lists are stored whole. Assumes nothing.
+-- `planner_c::hand_out`: both lists are stored whole. Assumes nothing.
 use mathlib.Core.List.{[], _∷_}
 use mathlib.Core.Path.{_∙_}
 use borrow.Author.Needs.{needs}
@@ -6,10 +6,10 @@ use native.Mathlib.Omega.{arith}
 use lib.ListN.{length-set}
 use lib.Seq.{sets}
 use Rattle.arith.proofs.SignedLaws.{field-back}
-use Rattle.planner.specs.Exports.{movesFor, givenNumbers}
-use Rattle.planner.proofs.Displayed.{sets-all}
-use Rattle.planner.proofs.exports.hand_out.Statement.{statement}
-use Rattle.planner.proofs.exports.hand_out.Tie as tie
+use Rattle.planner_c.specs.Exports.{movesFor, givenNumbers}
+use Rattle.planner_c.proofs.Displayed.{sets-all}
+use Rattle.planner_c.proofs.hand_out.Statement.{statement}
+use Rattle.planner_c.proofs.hand_out.Tie as tie
 
 slice-set-from-x : tie.Need-slice-set-from-x
 slice-set-from-x c = search needs

@@ -1,14 +1,14 @@
--- `planner::exports::fullerecru_add`: the promise of `add` at the block, by its number. Assumes nothing.
+-- `planner_c::fullerecru_add`: the promise of `add` at the block, by its number. Assumes nothing.
 use mathlib.Core.Path.{subst}
 use borrow.Author.Needs.{needs}
 use Rattle.arith.proofs.SignedLaws.{read-back}
 use Rattle.machine.specs.declared.Block.{Block}
 use Rattle.line.specs.Answers.{addMeans}
 use Rattle.line.specs.Blocks.{add}
 use Rattle.planner.specs.Calls.{Called}
-use Rattle.planner.proofs.Displayed.{exported}
-use Rattle.planner.proofs.exports.fullerecru_add.Statement.{statement}
-use Rattle.planner.proofs.exports.fullerecru_add.Tie as tie
+use Rattle.planner_c.proofs.Displayed.{exported}
+use Rattle.planner_c.proofs.fullerecru_add.Statement.{statement}
+use Rattle.planner_c.proofs.fullerecru_add.Tie as tie
 
 add-requires : tie.Need-add-requires
 add-requires c κs = search needs

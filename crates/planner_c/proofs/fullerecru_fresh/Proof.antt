@@ -1,12 +1,12 @@
--- `planner::exports::fullerecru_fresh`: the promise of `fresh` at the limits that were read. Assumes nothing.
+-- `planner_c::fullerecru_fresh`: the promise of `fresh` at the limits that were read. Assumes nothing.
 use mathlib.Core.Path.{ap, _∙_}
 use borrow.Author.Needs.{needs}
 use Rattle.machine.specs.Checks.{limitsRefusal}
 use Rattle.machine.specs.declared.Limits.{Limits}
 use Rattle.planner.specs.Calls.{freshIn}
 use Rattle.planner.specs.View.{viewOf}
-use Rattle.planner.proofs.exports.fullerecru_fresh.Statement.{statement}
-use Rattle.planner.proofs.exports.fullerecru_fresh.Tie as tie
+use Rattle.planner_c.proofs.fullerecru_fresh.Statement.{statement}
+use Rattle.planner_c.proofs.fullerecru_fresh.Tie as tie
 
 limits-of-requires : tie.Need-limits-of-requires
 limits-of-requires c κs = search needs

@@ -1,9 +1,9 @@
--- `planner::exports::limits_of`: each limit as it stands. Assumes nothing.
+-- `planner_c::limits_of`: each limit as it stands. Assumes nothing.
 use mathlib.Core.Path.{refl}
 use borrow.Author.Needs.{needs}
 use Rattle.planner.specs.View.{limitsFrom}
-use Rattle.planner.proofs.exports.limits_of.Statement.{statement}
-use Rattle.planner.proofs.exports.limits_of.Tie as tie
+use Rattle.planner_c.proofs.limits_of.Statement.{statement}
+use Rattle.planner_c.proofs.limits_of.Tie as tie
 
 shared-slice-read-t5 : tie.Need-shared-slice-read-t5
 shared-slice-read-t5 c = search needs
