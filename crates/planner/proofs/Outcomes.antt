@@ -1,23 +1,23 @@
 -- What a call answers and leaves, by the tests that the code makes. Assumes nothing.
-use mathlib.Core.Path.{_≡_, refl, sym, ap, _∙_}
-use mathlib.Core.Bool.{Bool, true, false}
+use mathlib.Core.Bool.{Bool}
 use mathlib.Core.List.{List}
+use mathlib.Core.Path.{_≡_, refl, sym, ap, _∙_}
 use Prim.Native.Nat.{ℕ, zero, suc, _+_, _≤_, _<_}
 use borrow.Author.Tests.{le-leb, lt-leb, eq-eqb, ne-eqb}
 use native.Mathlib.Omega.{arith}
-use lib.Dec.{lit<, leb, eqb}
+use lib.Dec.{lit<, leb}
 use lib.ListN.{length}
 use Rattle.machine.specs.Checks.{refusalNumber, limitsRefusal, blockRefusal, pick}
 use Rattle.machine.specs.declared.Block.{Block}
 use Rattle.machine.specs.declared.Limits.{Limits}
 use Rattle.machine.specs.declared.Refusal.{Refusal}
 use Rattle.machine.specs.declared.Refusal.the-variants as why
-use Rattle.line.specs.declared.Given.{Given}
-use Rattle.line.specs.Answers.{Answer, accepted, gave, refused}
+use Rattle.line.specs.Answers.{accepted, gave, refused}
 use Rattle.line.specs.Blocks.{mostHeld, add, take, orElse, addRefusal, addAnswer}
-use Rattle.line.specs.Ring.{Ring, putLast, addedIn, givenIn, takenFrom, takenAnswer, takenIn, ringAnswer, ringAfter, toldOf, shownIn, showRefusal}
-use Rattle.planner.specs.View.{memorySize, viewOf}
+use Rattle.line.specs.Ring.{putLast, addedIn, givenIn, takenFrom, takenAnswer, takenIn, ringAnswer, ringAfter, toldOf, shownIn, showRefusal}
+use Rattle.line.specs.declared.Given.{Given}
 use Rattle.planner.specs.Calls.{Memory, GaveFirst, Called, Freshened, freshIn, Showed, shownList}
+use Rattle.planner.specs.View.{memorySize, viewOf}
 
 -- Every refusal has a number above 0.
 pub refusal-above : (r : Refusal) → 0 < refusalNumber r

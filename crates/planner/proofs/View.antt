@@ -1,15 +1,15 @@
 -- The memory as a ring: what is read of a place, and what the view is after stores. Assumes nothing.
-use mathlib.Core.Path.{_≡_, refl, sym, ap, _∙_}
 use mathlib.Core.Bool.{Bool, true, false}
 use mathlib.Core.List.{List, [], _∷_}
+use mathlib.Core.Path.{_≡_, refl, sym, ap, _∙_}
 use Prim.Native.Nat.{ℕ, zero, suc, _+_, _-_, _*_, _/_, _%_, _≤_, _<_}
+use borrow.Author.Tests.{ltb-true, ltb-false}
+use native.Mathlib.Nat.{mod-lt}
 use native.Mathlib.Numerals.{towards-suc}
 use native.Mathlib.Omega.{arith}
-use native.Mathlib.Nat.{mod-lt}
-use borrow.Author.Tests.{ltb-true, ltb-false}
 use lib.Dec.{ltb, lit<}
 use lib.ListN.{length, getD, set, length-set}
-use lib.Seq.{sets, length-sets, getD-set-same, getD-set-other, ext-getD}
+use lib.Seq.{sets, getD-set-same, getD-set-other, ext-getD}
 use Rattle.machine.specs.declared.Limits.{Limits}
 use Rattle.line.specs.Blocks.{mostHeld}
 use Rattle.line.specs.Ring.{Place, Ring, noPlace, placeAt, slot, withPlace, withLimit, freshRing}

@@ -1,15 +1,15 @@
 -- What the calls of a planner promise: the answer, and every number of the memory afterwards.
-use mathlib.Core.Path.{_≡_}
 use mathlib.Core.List.{List}
+use mathlib.Core.Path.{_≡_}
 use Prim.Native.Nat.{ℕ, zero, suc}
 use lib.ListN.{length}
+use Rattle.profile.specs.Passes.{brakeFrom, exitFrom}
 use Rattle.machine.specs.Checks.{limitsRefusal}
 use Rattle.machine.specs.declared.Limits.{Limits}
 use Rattle.line.specs.Answers.{Answer}
 use Rattle.line.specs.Blocks.{Call, addAnswer}
-use Rattle.line.specs.declared.Given.{Given}
-use Rattle.profile.specs.Passes.{brakeFrom, exitFrom}
 use Rattle.line.specs.Ring.{Place, Ring, givenIn, takenFrom, freshRing, ringAnswer, ringAfter, shownIn, showRefusal}
+use Rattle.line.specs.declared.Given.{Given}
 use Rattle.planner.specs.View.{memorySize, viewOf}
 
 -- the backward and the forward step of a place's block

@@ -10,12 +10,6 @@ ghost use Rattle.line.specs.Ring.{ringAnswer, toldOf};
 ghost use Rattle.planner.specs.Calls.{Freshened};
 ghost use Rattle.planner_c.specs.Exports.{Exported, Gave, Lent, Listed, answerNumber};
 ghost use Rattle.planner.specs.View.{limitsFrom, viewOf};
-use planner::NUMBERS;
-use planner::add;
-use planner::fresh;
-use planner::shown;
-use planner::take;
-use planner::told;
 use line::AddAnswer;
 use line::Given;
 use line::ShowAnswer;
@@ -25,6 +19,12 @@ use machine::Block;
 use machine::Checked;
 use machine::Limits;
 use machine::Refusal;
+use planner::NUMBERS;
+use planner::add;
+use planner::fresh;
+use planner::shown;
+use planner::take;
+use planner::told;
 
 // The number on the display of a refusal.
 fn refusal_number(why: Refusal) -> u64

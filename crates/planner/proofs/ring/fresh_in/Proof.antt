@@ -2,12 +2,11 @@
 use mathlib.Core.List.{[], _∷_}
 use mathlib.Core.Path.{sym, ap, _∙_}
 use borrow.Author.Needs.{needs}
-use lib.ListN.{length}
-use lib.Seq.{length-sets}
 use Rattle.machine.specs.Checks.{refusalNumber, checkedNumber}
 use Rattle.planner.specs.View.{limitNumbers, viewOf}
 use Rattle.planner.proofs.View.{view-fresh}
 use Rattle.planner.proofs.Outcomes.{refusal-above, fresh-refused, fresh-made}
+use Rattle.planner.proofs.Steps.{still-sized}
 use Rattle.planner.proofs.ring.fresh_in.Statement.{statement}
 use Rattle.planner.proofs.ring.fresh_in.Tie as tie
 
@@ -42,7 +41,7 @@ returns-2 c =
     let s = k .before .before in
     let m = s .args .memory .now in
     fresh-made m (s .pre) (s .args .l) (f .store-fresh .last .0)
-    (ap length (f .store-fresh .ensures) ∙ length-sets m 0 (limitNumbers (s .args .l) (0 ∷ 0 ∷ 0 ∷ [])) ∙ s .pre)
+    (still-sized m (f .store-fresh .last .0) 0 (limitNumbers (s .args .l) (0 ∷ 0 ∷ 0 ∷ [])) (s .pre) (f .store-fresh .ensures))
     (sym (ap checkedNumber (e .enum-told .given .1)) ∙ k .check-limits .ensures)
     (ap viewOf (f .store-fresh .ensures) ∙ view-fresh m (s .args .l) (s .pre))
 

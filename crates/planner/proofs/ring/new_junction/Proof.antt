@@ -1,5 +1,4 @@
 -- `planner::ring::new_junction`: the corner between the last block and the new one, from `junction-is`. Assumes nothing.
-use mathlib.Core.Path.{_∙_}
 use borrow.Author.Needs.{needs}
 use borrow.Author.Tests.{eq-eqb}
 use native.Mathlib.Omega.{arith}
@@ -62,9 +61,8 @@ returns-2 c =
     let e = p .before .before in
     let s = e .before .before .before in
     let a = s .args in
-    c .under-corner .ensures
-    ∙ junction-is (a .memory .now) (p .place .result) (a .l) (a .b) (a .n) (p .place .ensures .0) (d .before .smaller .result) (d .block-in .result)
-    (e .if1 .left) (d .before .smaller .ensures) (d .block-in .ensures)
+    junction-is (a .memory .now) (p .place .result) (a .l) (a .b) (a .n) (p .place .ensures .0) (c .under-corner .result) (d .before .smaller .result) (d .block-in .result)
+    (e .if1 .left) (d .before .smaller .ensures) (d .block-in .ensures) (c .under-corner .ensures)
 
 pub new-junction-spec : {M : Type 1} → statement M
 new-junction-spec =

@@ -1,17 +1,16 @@
 -- `planner::ring::put_last`: the place, the count and the walk back together, from `put-is`. Assumes nothing.
-use mathlib.Core.Path.{_≡_, ap, _∙_}
+use mathlib.Core.Path.{_≡_, _∙_}
 use Prim.Native.Nat.{_^_, _<_}
 use borrow.Author.Needs.{needs}
 use native.Mathlib.Omega.{arith}
 use lib.ListN.{length, length-set}
-use lib.Seq.{length-sets}
 use Rattle.machine.proofs.Bounds.{moves-below, length-below}
 use Rattle.machine.specs.Checks.{movesOf}
 use Rattle.machine.specs.Numbers.{AxesBelow, lengthFrom, numbersOf}
 use Rattle.machine.specs.declared.Block.{Block}
 use Rattle.line.specs.Ring.{placeOf}
 use Rattle.planner.specs.View.{memorySize, numbersFor, limitsFrom, viewOf}
-use Rattle.planner.proofs.Steps.{limits-below, put-is}
+use Rattle.planner.proofs.Steps.{limits-below, still-sized, put-is}
 use Rattle.planner.proofs.ring.put_last.Statement.{statement}
 use Rattle.planner.proofs.ring.put_last.Tie as tie
 
@@ -21,8 +20,11 @@ short b h = omega (arith, length-below (movesOf b) h)
 stored : (c : tie.After-store-place) → length (c .store-place .last .0) ≡ memorySize
 stored c =
     let p = c .before .before in
-    let s = p .before .before .before .before .before .before .before .before .before in
-    ap length (c .store-place .ensures) ∙ length-sets (s .args .memory .now) (p .place .result) (numbersFor (placeOf (s .args .b) _ _)) ∙ s .pre .0
+    let j = p .before .before .before in
+    let n = j .before .before in
+    let s = n .before .before .before .before in
+    still-sized (s .args .memory .now) (c .store-place .last .0) (p .place .result) (numbersFor (placeOf (s .args .b) (n .numbers .result) (j .new-junction .result)))
+    (s .pre .0) (c .store-place .ensures)
 
 limits-in-requires : tie.Need-limits-in-requires
 limits-in-requires c κs = search needs
