@@ -1,4 +1,3 @@
-pub mod Displayed
 pub mod Outcomes
 pub mod Steps
 pub mod View

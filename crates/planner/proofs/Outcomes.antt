@@ -1,11 +1,11 @@
 -- What a call answers and leaves, by the tests that the code makes. Assumes nothing.
-use mathlib.Core.Path.{_≡_, refl, sym, ap, _∙_}
-use mathlib.Core.Bool.{Bool, true, false}
+use mathlib.Core.Bool.{Bool}
 use mathlib.Core.List.{List}
+use mathlib.Core.Path.{_≡_, refl, sym, ap, _∙_}
 use Prim.Native.Nat.{ℕ, zero, suc, _+_, _≤_, _<_}
 use borrow.Author.Tests.{le-leb, lt-leb, eq-eqb, ne-eqb}
 use native.Mathlib.Omega.{arith}
-use lib.Dec.{lit<, leb, eqb}
+use lib.Dec.{lit<, leb}
 use lib.ListN.{length}
 use Rattle.machine.specs.Answers.{firstOf}
 use Rattle.machine.specs.Checks.{refusalNumber, limitsRefusal, blockRefusal, pick}
@@ -61,6 +61,7 @@ refused-by m b n sized h e =
     answered : (n : ℕ) → 0 < n → refused n ≡ addAnswer n
     answered zero h = absurd (omega arith)
     answered (suc n) h = refl
+
     unchanged : (n : ℕ) → 0 < n → viewOf m ≡ addedIn n (viewOf m) b
     unchanged zero h = absurd (omega arith)
     unchanged (suc n) h = refl
@@ -101,6 +102,7 @@ module _ (m : List ℕ) where
       answered : (n : ℕ) → 0 < n → gave (givenIn (viewOf m)) ≡ takenAnswer n (viewOf m)
       answered zero h = absurd (omega arith)
       answered (suc n) h = refl
+
       left : (n : ℕ) → 0 < n → takenFrom (viewOf m) ≡ takenIn n (viewOf m)
       left zero h = absurd (omega arith)
       left (suc n) h = refl

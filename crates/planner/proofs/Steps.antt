@@ -1,42 +1,31 @@
 -- The passes over a ring, one step of each, in the numbers that the code reads. From the laws of the view. Assumes nothing.
-use mathlib.Core.Path.{_≡_, refl, sym, ap, _∙_}
-use mathlib.Core.Bool.{Bool, true, false}
-use mathlib.Core.List.{List, [], _∷_}
-use mathlib.Core.Bool.{cond}
-use mathlib.Core.List.{_++_}
-use Prim.Native.Nat.{ℕ, zero, suc, _+_, _-_, _*_, _%_, _^_, _≤_, _<_, min}
+use mathlib.Core.Bool.{Bool, true, false, cond}
+use mathlib.Core.List.{List, _∷_, _++_}
+use mathlib.Core.Path.{_≡_, sym, ap, _∙_}
+use Prim.Native.Nat.{ℕ, suc, _+_, _-_, _*_, _%_, _^_, _≤_, _<_, min}
+use borrow.Author.Tests.{eq-eqb, ne-eqb}
 use native.Mathlib.Nat.{sub-zero, mod-lt}
 use native.Mathlib.Numerals.{add-one}
-use borrow.Author.Tests.{eq-eqb, ne-eqb}
 use native.Mathlib.Omega.{arith}
-use lib.Dec.{eqb}
-use lib.Dec.{lit<}
+use lib.Dec.{eqb, lit<}
 use lib.IntN.{ℤ, pos, negsuc, natAbs}
-use lib.ListN.{length, getD, set, take, drop}
-use lib.Seq.{take-suc-set, append-snoc, set-split, take-all, drop-length}
+use lib.ListN.{length, getD, set, take}
+use lib.Seq.{take-suc-set, append-snoc, set-split, drop-length, sets, length-sets}
 use lib.Signed.{mag}
-use Rattle.fields.specs.Signed.{signedOf}
 use Rattle.fields.proofs.Signed.{signed-range}
-use Rattle.profile.specs.Passes.{exitFrom}
+use Rattle.fields.specs.Signed.{signedOf}
 use Rattle.machine.specs.Checks.{movesOf, pick}
-use Rattle.machine.specs.Numbers.{AxesBelow, underCorner, cornerFrom, turnFrom, rampable, rampOf, noRamp}
-use Rattle.machine.specs.declared.Axes.{Axes}
+use Rattle.machine.specs.Numbers.{AxesBelow, underCorner, cornerFrom, turnFrom, rampable, rampOf, noRamp, LimitsBelow, numbersOf}
 use Rattle.machine.specs.declared.Block.{Block}
 use Rattle.machine.specs.declared.Limits.{Limits}
 use Rattle.machine.specs.declared.Numbers.{Numbers}
 use Rattle.machine.specs.declared.Ramp.{Ramp}
-use Rattle.line.specs.declared.Given.{Given}
-use Rattle.machine.specs.Numbers.{LimitsBelow, numbersOf}
-use Rattle.planner.specs.View.{numbersFor}
-use Rattle.planner.proofs.View.{view-put, view-count}
-use lib.Seq.{sets, length-sets}
-use Rattle.line.specs.Ring.{cutLimits, placeOf, putLast, blockIn, numbersIn, junctionAfter, givenIn, takenFrom, speedsFrom}
-use Rattle.planner.proofs.View.{view-moved}
 use Rattle.line.specs.Blocks.{mostHeld}
-use Rattle.line.specs.Ring.{Place, Ring, placeAt, slot, brakeAt, withLimit, withPlace, walkBack}
-use Rattle.planner.specs.View.{memorySize, baseOf, placeFrom, viewOf}
-use Rattle.planner.specs.Calls.{brakeIn, exitIn, Memory}
-use Rattle.planner.proofs.View.{ring-place, view-limit}
+use Rattle.line.specs.Ring.{cutLimits, placeOf, putLast, blockIn, numbersIn, junctionAfter, givenIn, takenFrom, speedsFrom, Place, Ring, placeAt, slot, brakeAt, withLimit, withPlace, walkBack}
+use Rattle.line.specs.declared.Given.{Given}
+use Rattle.planner.specs.Calls.{brakeIn, exitIn}
+use Rattle.planner.specs.View.{numbersFor, memorySize, baseOf, placeFrom, viewOf}
+use Rattle.planner.proofs.View.{view-put, view-count, view-moved, ring-place, view-limit}
 
 -- Where block k begins, from the place of the first block that was read before.
 pub begins : (m : List ℕ) (first k at : ℕ) → viewOf m .first ≡ first → at ≡ baseOf ((first + k) % mostHeld) → at ≡ baseOf (slot (viewOf m) k)
@@ -74,14 +63,19 @@ module _ (m : List ℕ) (n k after at limit : ℕ) (one : n ≡ suc k)
 
 -- The junction between the last block held, whose place begins at `at`, and a new one.
 module _ (m : List ℕ) (at : ℕ) (l : Limits) (b : Block) (n : Numbers) (here : at ≡ baseOf (slot (viewOf m) (viewOf m .count - 1))) where
-  pub junction-is : (cap : ℕ) (before : Block) → (viewOf m .count ≡ 0 → ⊥) → cap ≡ min (placeFrom m at .cap) (n .cap) → before ≡ blockIn (placeFrom m at)
-      → underCorner (cornerFrom (l .jump) (placeFrom m at .length % 2 ^ 30 * n .length) (turnFrom (placeFrom m at .length % 2 ^ 30 * n .length) before b)) cap
-      ≡ pick (eqb (viewOf m .count) 0) 0 (junctionAfter l (placeAt (viewOf m) (viewOf m .count - 1)) b n)
+  pub junction-is : (r cap : ℕ) (before : Block) → (viewOf m .count ≡ 0 → ⊥) → cap ≡ min (placeFrom m at .cap) (n .cap) → before ≡ blockIn (placeFrom m at)
+      → r ≡ underCorner (cornerFrom (l .jump) (placeFrom m at .length % 2 ^ 30 * n .length) (turnFrom (placeFrom m at .length % 2 ^ 30 * n .length) before b)) cap
+      → r ≡ pick (eqb (viewOf m .count) 0) 0 (junctionAfter l (placeAt (viewOf m) (viewOf m .count - 1)) b n)
   unfolding junctionAfter
-  junction-is cap before some e f =
-      (λ i. underCorner (cornerFrom (l .jump) (placeFrom m at .length % 2 ^ 30 * n .length) (turnFrom (placeFrom m at .length % 2 ^ 30 * n .length) (f i) b)) (e i))
+  junction-is r cap before some e f g =
+      g
+      ∙ (λ i. underCorner (cornerFrom (l .jump) (placeFrom m at .length % 2 ^ 30 * n .length) (turnFrom (placeFrom m at .length % 2 ^ 30 * n .length) (f i) b)) (e i))
       ∙ ap (λ (p : Place). junctionAfter l p b n) (ap (placeFrom m) here ∙ sym (ring-place m (viewOf m .count - 1)))
       ∙ sym (ap (λ (t : Bool). pick t 0 (junctionAfter l (placeAt (viewOf m) (viewOf m .count - 1)) b n)) (ne-eqb _ _ some))
+
+-- A run of stores keeps the memory's size.
+pub still-sized : (m m₁ : List ℕ) (at : ℕ) (vs : List ℕ) → length m ≡ memorySize → m₁ ≡ sets m at vs → length m₁ ≡ memorySize
+still-sized m m₁ at vs sized e = ap length e ∙ length-sets m at vs ∙ sized
 
 -- A block put last: its place, then the count, then the walk back.
 pub put-is : (m m₁ : List ℕ) (l : Limits) (b : Block) (n : Numbers) (junction at : ℕ) → length m ≡ memorySize
@@ -96,7 +90,7 @@ put-is m m₁ l b n junction at sized le ne je here stored =
     let joined = je ∙ (λ i. pick (eqb count 0) 0 (junctionAfter (le i) (placeAt (viewOf m) (count - 1)) b (numbers i))) in
     let put = ap viewOf stored ∙ (λ i. viewOf (sets m (here i) (numbersFor (placeOf b (numbers i) (joined i))))) ∙ view-put m count _ sized in
     ap (walkBack count)
-    (view-count m₁ (count + 1) (ap length stored ∙ length-sets m at (numbersFor (placeOf b n junction)) ∙ sized)
+    (view-count m₁ (count + 1) (still-sized m m₁ at (numbersFor (placeOf b n junction)) sized stored)
     ∙ (λ i. record { limits = put i .limits; first = put i .first; count = count + 1; committed = put i .committed; places = put i .places }))
 
 -- A move of 21 bits is below 2^21, either way.

@@ -1,15 +1,15 @@
 -- The memory as a ring: what is read of a place, and what the view is after stores. Assumes nothing.
-use mathlib.Core.Path.{_≡_, refl, sym, ap, _∙_}
 use mathlib.Core.Bool.{Bool, true, false}
 use mathlib.Core.List.{List, [], _∷_}
+use mathlib.Core.Path.{_≡_, refl, sym, ap, _∙_}
 use Prim.Native.Nat.{ℕ, zero, suc, _+_, _-_, _*_, _/_, _%_, _≤_, _<_}
+use borrow.Author.Tests.{ltb-true, ltb-false}
+use native.Mathlib.Nat.{mod-lt}
 use native.Mathlib.Numerals.{towards-suc}
 use native.Mathlib.Omega.{arith}
-use native.Mathlib.Nat.{mod-lt}
-use borrow.Author.Tests.{ltb-true, ltb-false}
 use lib.Dec.{ltb, lit<}
 use lib.ListN.{length, getD, set, length-set}
-use lib.Seq.{sets, length-sets, getD-set-same, getD-set-other, ext-getD}
+use lib.Seq.{sets, getD-set-same, getD-set-other, ext-getD}
 use Rattle.machine.specs.declared.Limits.{Limits}
 use Rattle.line.specs.Blocks.{mostHeld}
 use Rattle.line.specs.Ring.{Place, Ring, noPlace, placeAt, slot, withPlace, withLimit, freshRing}
@@ -301,6 +301,7 @@ view-determines a b p q e = ext-getD 0 a b (p ∙ sym q) each
         sym (numbers-at a (baseOf i) j g)
         ∙ ap (λ (s : Place). getD (numbersFor s) j 0) (sym (view-place a i h) ∙ ap (λ (r : Ring). getD (r .places) i noPlace) e ∙ view-place b i h)
         ∙ numbers-at b (baseOf i) j g
+
     each : (k : ℕ) → k < length a → getD a k 0 ≡ getD b k 0
     each k h = go (ltb k headSize) refl
       where

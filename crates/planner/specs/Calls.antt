@@ -1,17 +1,17 @@
 -- What the calls of a planner promise: the answer, and every number of the memory afterwards.
-use mathlib.Core.Path.{_≡_}
 use mathlib.Core.List.{List}
+use mathlib.Core.Path.{_≡_}
 use Prim.Native.Nat.{ℕ, zero, suc, _+_}
 use lib.ListN.{length}
+use Rattle.profile.specs.Line.{Highest}
+use Rattle.profile.specs.Passes.{brakeFrom, exitFrom}
+use Rattle.machine.specs.Line.{stepsOf}
 use Rattle.machine.specs.Checks.{limitsRefusal}
 use Rattle.machine.specs.declared.Limits.{Limits}
 use Rattle.line.specs.Answers.{Answer}
 use Rattle.line.specs.Blocks.{Call, Line, addAnswer, freshLine, lineAnswer, lineAfter, linePlan}
 use Rattle.line.specs.Holds.{Holds}
 use Rattle.line.specs.declared.Given.{Given}
-use Rattle.profile.specs.Line.{Highest}
-use Rattle.profile.specs.Passes.{brakeFrom, exitFrom}
-use Rattle.machine.specs.Line.{stepsOf}
 use Rattle.line.specs.Ring.{Place, Ring, givenIn, takenFrom, freshRing, ringAnswer, ringAfter, toldOf, shownIn, showRefusal}
 use Rattle.planner.specs.View.{memorySize, viewOf}
 

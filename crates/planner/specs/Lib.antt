@@ -1,4 +1,3 @@
 -- The memory of a planner as a ring of places, and what its calls promise.
 pub mod Calls
-pub mod Exports
 pub mod View

@@ -2,7 +2,6 @@
 use mathlib.Core.List.{List, [], _∷_}
 use Prim.Native.Nat.{ℕ, zero, suc, _+_, _*_}
 use lib.ListN.{getD}
-use Rattle.machine.specs.declared.Axes.{Axes}
 use Rattle.machine.specs.declared.Limits.{Limits}
 use Rattle.line.specs.Blocks.{mostHeld}
 use Rattle.line.specs.Ring.{Place, Ring}

@@ -13,7 +13,6 @@ use machine::Block;
 use machine::Checked;
 use machine::Limits;
 
-pub mod exports;
 mod memory;
 mod ring;
 
@@ -86,11 +85,13 @@ impl Planner {
     pub const MOST_ACCEL: u64 = machine::check::MOST_ACCEL;
     // Speeds and corner jump, µm/s.
     pub const MOST_SPEED: u64 = machine::check::MOST_SPEED;
+
     pub const MOST_JUMP: u64 = machine::check::MOST_JUMP;
     // Chord tolerance, µm.
     pub const MOST_CHORD: u64 = machine::check::MOST_CHORD;
     // Tick, microseconds.
     pub const LEAST_TICK: u64 = machine::check::LEAST_TICK;
+
     pub const MOST_TICK: u64 = machine::check::MOST_TICK;
 
     pub fn fresh(l: Limits) -> Made

@@ -22,30 +22,51 @@ pub const PLACES: u64 = 64;
 // The head: nine limits, the place of the first block, how many blocks are held, and the committed
 // squared speed.
 pub const ACCEL_X: usize = 0;
+
 pub const ACCEL_Y: usize = 1;
+
 pub const ACCEL_Z: usize = 2;
+
 pub const SPEED_X: usize = 3;
+
 pub const SPEED_Y: usize = 4;
+
 pub const SPEED_Z: usize = 5;
+
 pub const JUMP: usize = 6;
+
 pub const CHORD: usize = 7;
+
 pub const TICK: usize = 8;
+
 pub const FIRST: usize = 9;
+
 pub const COUNT: usize = 10;
+
 pub const COMMITTED: usize = 11;
 // A place, from its first number on: the moves as 21 bits each (X is first), feed, radius, mark,
 // the block's numbers, the cap of the junction where it begins, and the greatest squared speed at
 // its end from which the blocks after it can brake.
 pub const Y: usize = 1;
+
 pub const Z: usize = 2;
+
 pub const FEED: usize = 3;
+
 pub const RADIUS: usize = 4;
+
 pub const MARK: usize = 5;
+
 pub const LENGTH: usize = 6;
+
 pub const ACCEL: usize = 7;
+
 pub const REACH: usize = 8;
+
 pub const CAP: usize = 9;
+
 pub const JUNCTION: usize = 10;
+
 pub const LIMIT: usize = 11;
 // Bits of a move.
 const MOVE_BITS: usize = 21;

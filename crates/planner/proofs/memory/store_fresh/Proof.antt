@@ -1,82 +1,52 @@
-use lib.ListN.{length-set}
-use native.Mathlib.Omega.{arith}
+-- `planner::memory::store_fresh`: twelve stores are a run. Assumes nothing.
 use borrow.Author.Needs.{needs}
+use native.Mathlib.Omega.{arith}
+use lib.ListN.{length-set}
 use Rattle.planner.proofs.memory.store_fresh.Statement.{statement}
 use Rattle.planner.proofs.memory.store_fresh.Tie as tie
-use Rattle.planner.proofs.memory.store_fresh.Reads as reads
-use Rattle.planner.proofs.memory.store_fresh.Lts as lts
 
--- src/memory.rt:142:5
 slice-write-memory : tie.Need-slice-write-memory
 slice-write-memory c = search needs
 
--- src/memory.rt:143:5
 slice-write-memory-2 : tie.Need-slice-write-memory-2
 slice-write-memory-2 c = simp length-set (omega arith)
 
--- src/memory.rt:144:5
 slice-write-memory-3 : tie.Need-slice-write-memory-3
 slice-write-memory-3 c = simp length-set (omega arith)
 
--- src/memory.rt:145:5
 slice-write-memory-4 : tie.Need-slice-write-memory-4
 slice-write-memory-4 c = simp length-set (omega arith)
 
--- src/memory.rt:146:5
 slice-write-memory-5 : tie.Need-slice-write-memory-5
 slice-write-memory-5 c = simp length-set (omega arith)
 
--- src/memory.rt:147:5
 slice-write-memory-6 : tie.Need-slice-write-memory-6
 slice-write-memory-6 c = simp length-set (omega arith)
 
--- src/memory.rt:148:5
 slice-write-memory-7 : tie.Need-slice-write-memory-7
 slice-write-memory-7 c = simp length-set (omega arith)
 
--- src/memory.rt:149:5
 slice-write-memory-8 : tie.Need-slice-write-memory-8
 slice-write-memory-8 c = simp length-set (omega arith)
 
--- src/memory.rt:150:5
 slice-write-memory-9 : tie.Need-slice-write-memory-9
 slice-write-memory-9 c = simp length-set (omega arith)
 
--- src/memory.rt:151:5
 slice-write-memory-10 : tie.Need-slice-write-memory-10
 slice-write-memory-10 c = simp length-set (omega arith)
 
--- src/memory.rt:152:5
 slice-write-memory-11 : tie.Need-slice-write-memory-11
 slice-write-memory-11 c = simp length-set (omega arith)
 
--- src/memory.rt:153:5
 slice-write-memory-12 : tie.Need-slice-write-memory-12
 slice-write-memory-12 c = simp length-set (omega arith)
 
--- src/memory.rt:136:1
 same-length : tie.Need-same-length
 same-length c = simp length-set
 
--- src/memory.rt:136:1
 returns : tie.Need-returns
 returns c = search needs
 
 pub store-fresh-spec : {M : Type 1} → statement M
 store-fresh-spec =
-    tie.close
-    (tie.spec
-    slice-write-memory
-    slice-write-memory-2
-    slice-write-memory-3
-    slice-write-memory-4
-    slice-write-memory-5
-    slice-write-memory-6
-    slice-write-memory-7
-    slice-write-memory-8
-    slice-write-memory-9
-    slice-write-memory-10
-    slice-write-memory-11
-    slice-write-memory-12
-    same-length
-    returns)
+    tie.close (tie.spec slice-write-memory slice-write-memory-2 slice-write-memory-3 slice-write-memory-4 slice-write-memory-5 slice-write-memory-6 slice-write-memory-7 slice-write-memory-8 slice-write-memory-9 slice-write-memory-10 slice-write-memory-11 slice-write-memory-12 same-length returns)

@@ -1,36 +1,28 @@
+-- `planner::ring::add_in`: one law for each way out. Assumes nothing.
 use mathlib.Core.Path.{_≡_, sym, ap, _∙_}
+use borrow.Author.Needs.{needs}
 use Rattle.machine.specs.Checks.{refusalNumber, checkedNumber, blockRefusal}
 use Rattle.planner.specs.View.{viewOf}
 use Rattle.machine.proofs.AnswerLaws.{refusal-above}
 use Rattle.planner.proofs.Outcomes.{add-refused, add-full, add-put}
-use borrow.Author.Needs.{needs}
 use Rattle.planner.proofs.ring.add_in.Statement.{statement}
 use Rattle.planner.proofs.ring.add_in.Tie as tie
-use Rattle.planner.proofs.ring.add_in.Reads as reads
-use Rattle.planner.proofs.ring.add_in.Lts as lts
-use Rattle.machine.proofs.check.check_block.Reads as check-block-reads
-use Rattle.planner.proofs.ring.put_last.Reads as put-last-reads
 
--- src/ring.rt:102:11
 check-block-requires : tie.Need-check-block-requires
 check-block-requires c κs = search needs
 
--- src/ring.rt:103:26
 enum-known-r : tie.Need-enum-known-r
 enum-known-r c = search needs
 
--- src/ring.rt:105:26
 enum-told : tie.Need-enum-told
 enum-told c = search needs
 
 passed : (c : tie.After-enum-told) → 0 ≡ blockRefusal (c .before .before .before .before .args .b)
 passed c = sym (ap checkedNumber (c .enum-told .given .1)) ∙ c .before .before .check-block .ensures
 
--- src/ring.rt:105:26
 slice-read-if1 : tie.Need-slice-read-if1
 slice-read-if1 c = search needs
 
--- src/ring.rt:106:17
 returns : tie.Need-returns
 unfolding viewOf
 returns c =
@@ -38,7 +30,6 @@ returns c =
     let s = e .before .before .before .before in
     add-full (s .args .memory .now) (s .args .b) (s .pre) (passed e) (c .if1 .taken)
 
--- src/ring.rt:108:13
 put-last-requires : tie.Need-put-last-requires
 unfolding viewOf
 put-last-requires c κs =
@@ -46,7 +37,6 @@ put-last-requires c κs =
     let s = e .before .before .before .before in
     (s .pre, sym (passed e), c .before .if1 .left)
 
--- src/ring.rt:98:1
 returns-2 : tie.Need-returns-2
 returns-2 c =
     let r = c .before in
@@ -55,11 +45,9 @@ returns-2 c =
     add-refused (s .args .memory .now) (s .args .b) (s .pre) (refusalNumber (r .r .given .0 .0)) (refusal-above (r .r .given .0 .0))
     (ap checkedNumber (sym (r .r .given .1)) ∙ k .check-block .ensures)
 
--- src/ring.rt:98:1
 same-length : tie.Need-same-length
 same-length c = search needs
 
--- src/ring.rt:98:1
 returns-3 : tie.Need-returns-3
 unfolding viewOf
 returns-3 c =
@@ -70,14 +58,4 @@ returns-3 c =
 
 pub add-in-spec : {M : Type 1} → statement M
 add-in-spec =
-    tie.close
-    (tie.spec
-    check-block-requires
-    enum-known-r
-    enum-told
-    slice-read-if1
-    returns
-    put-last-requires
-    returns-2
-    same-length
-    returns-3)
+    tie.close (tie.spec check-block-requires enum-known-r enum-told slice-read-if1 returns put-last-requires returns-2 same-length returns-3)

@@ -1,62 +1,45 @@
+-- `planner::ring::give_first`: what is given out and what is left, from `given-is` and `taken-is`. Assumes nothing.
 use Prim.Native.Nat.{_<_}
+use borrow.Author.Needs.{needs}
 use lib.ListN.{getD, length-set}
 use Rattle.planner.specs.View.{viewOf}
 use Rattle.planner.proofs.Steps.{given-is, taken-is}
-use borrow.Author.Needs.{needs}
 use Rattle.planner.proofs.ring.give_first.Statement.{statement}
 use Rattle.planner.proofs.ring.give_first.Tie as tie
-use Rattle.planner.proofs.ring.give_first.Reads as reads
-use Rattle.planner.proofs.ring.give_first.Lts as lts
-use Rattle.machine.proofs.ramps.ramp_between.Reads as ramp-between-reads
-use Rattle.planner.proofs.memory.block_in.Reads as block-in-reads
-use Rattle.planner.proofs.memory.exit_at.Reads as exit-at-reads
-use Rattle.planner.proofs.memory.numbers_in.Reads as numbers-in-reads
-use Rattle.planner.proofs.memory.place.Reads as place-reads
 
 abbrev start : tie.After-block-in → tie.Start
 start c = c .before .before .before .before .before .before .before .before .before .before .before .before
 
--- src/ring.rt:119:17
 slice-read-first : tie.Need-slice-read-first
 slice-read-first c = search needs
 
--- src/ring.rt:120:17
 slice-read-count : tie.Need-slice-read-count
 slice-read-count c = search needs
 
--- src/ring.rt:121:17
 slice-read-entry : tie.Need-slice-read-entry
 slice-read-entry c = search needs
 
--- src/ring.rt:122:9
 place-requires : tie.Need-place-requires
 place-requires c κs = search needs
 
--- src/ring.rt:123:9
 numbers-in-requires : tie.Need-numbers-in-requires
 numbers-in-requires c κs = search needs
 
--- src/ring.rt:124:9
 exit-at-requires : tie.Need-exit-at-requires
 exit-at-requires c κs = search needs
 
--- src/ring.rt:125:9
 ramp-between-requires : tie.Need-ramp-between-requires
 ramp-between-requires c κs = search needs
 
--- src/ring.rt:126:9
 block-in-requires : tie.Need-block-in-requires
 block-in-requires c κs = search needs
 
--- src/ring.rt:127:22
 add-memory : tie.Need-add-memory
 add-memory c = search needs
 
--- src/ring.rt:127:5
 slice-write-memory : tie.Need-slice-write-memory
 slice-write-memory c = search needs
 
--- src/ring.rt:128:21
 sub-memory : tie.Need-sub-memory
 unfolding viewOf
 sub-memory c =
@@ -64,19 +47,15 @@ sub-memory c =
     let some : 0 < getD (s .args .memory .now) 10 0 = s .pre .1 in
     search needs
 
--- src/ring.rt:128:5
 slice-write-memory-2 : tie.Need-slice-write-memory-2
 slice-write-memory-2 c = search needs
 
--- src/ring.rt:129:5
 slice-write-memory-3 : tie.Need-slice-write-memory-3
 slice-write-memory-3 c = search needs
 
--- src/ring.rt:115:1
 same-length : tie.Need-same-length
 same-length c = search needs
 
--- src/ring.rt:115:1
 returns : tie.Need-returns
 unfolding viewOf
 returns c =
@@ -95,20 +74,4 @@ returns c =
 
 pub give-first-spec : {M : Type 1} → statement M
 give-first-spec =
-    tie.close
-    (tie.spec
-    slice-read-first
-    slice-read-count
-    slice-read-entry
-    place-requires
-    numbers-in-requires
-    exit-at-requires
-    ramp-between-requires
-    block-in-requires
-    add-memory
-    slice-write-memory
-    sub-memory
-    slice-write-memory-2
-    slice-write-memory-3
-    same-length
-    returns)
+    tie.close (tie.spec slice-read-first slice-read-count slice-read-entry place-requires numbers-in-requires exit-at-requires ramp-between-requires block-in-requires add-memory slice-write-memory sub-memory slice-write-memory-2 slice-write-memory-3 same-length returns)

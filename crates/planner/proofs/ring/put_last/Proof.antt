@@ -1,26 +1,18 @@
-use mathlib.Core.Path.{_≡_, sym, ap, _∙_}
+-- `planner::ring::put_last`: the place, the count and the walk back together, from `put-is`. Assumes nothing.
+use mathlib.Core.Path.{_≡_, _∙_}
 use Prim.Native.Nat.{_^_, _<_}
+use borrow.Author.Needs.{needs}
 use native.Mathlib.Omega.{arith}
 use lib.ListN.{length, length-set}
-use lib.Seq.{length-sets}
+use Rattle.machine.proofs.Bounds.{moves-below, length-below}
 use Rattle.machine.specs.Checks.{movesOf}
 use Rattle.machine.specs.Numbers.{AxesBelow, lengthFrom, numbersOf}
 use Rattle.machine.specs.declared.Block.{Block}
-use Rattle.machine.proofs.Bounds.{moves-below, length-below}
 use Rattle.line.specs.Ring.{placeOf}
 use Rattle.planner.specs.View.{memorySize, numbersFor, limitsFrom, viewOf}
-use Rattle.planner.proofs.Steps.{limits-below, put-is}
-use borrow.Author.Needs.{needs}
+use Rattle.planner.proofs.Steps.{limits-below, still-sized, put-is}
 use Rattle.planner.proofs.ring.put_last.Statement.{statement}
 use Rattle.planner.proofs.ring.put_last.Tie as tie
-use Rattle.planner.proofs.ring.put_last.Reads as reads
-use Rattle.planner.proofs.ring.put_last.Lts as lts
-use Rattle.machine.proofs.measure.numbers.Reads as numbers-reads
-use Rattle.planner.proofs.memory.limits_in.Reads as limits-in-reads
-use Rattle.planner.proofs.memory.place.Reads as place-reads
-use Rattle.planner.proofs.memory.store_place.Reads as store-place-reads
-use Rattle.planner.proofs.ring.new_junction.Reads as new-junction-reads
-use Rattle.planner.proofs.ring.walk_back.Reads as walk-back-reads
 
 short : (b : Block) → AxesBelow (2 ^ 20) (movesOf b) → lengthFrom (movesOf b) < 2 ^ 30
 short b h = omega (arith, length-below (movesOf b) h)
@@ -28,21 +20,21 @@ short b h = omega (arith, length-below (movesOf b) h)
 stored : (c : tie.After-store-place) → length (c .store-place .last .0) ≡ memorySize
 stored c =
     let p = c .before .before in
-    let s = p .before .before .before .before .before .before .before .before .before in
-    ap length (c .store-place .ensures) ∙ length-sets (s .args .memory .now) (p .place .result) (numbersFor (placeOf (s .args .b) _ _)) ∙ s .pre .0
+    let j = p .before .before .before in
+    let n = j .before .before in
+    let s = n .before .before .before .before in
+    still-sized (s .args .memory .now) (c .store-place .last .0) (p .place .result) (numbersFor (placeOf (s .args .b) (n .numbers .result) (j .new-junction .result)))
+    (s .pre .0) (c .store-place .ensures)
 
--- src/ring.rt:87:9
 limits-in-requires : tie.Need-limits-in-requires
 limits-in-requires c κs = search needs
 
--- src/ring.rt:88:9
 numbers-requires : tie.Need-numbers-requires
 unfolding viewOf
 numbers-requires c κs =
     let s = c .before .before .before in
     (rw (c .limits-in .ensures) (limits-below (limitsFrom (s .args .memory .now))), s .pre .1)
 
--- src/ring.rt:89:9
 new-junction-requires : tie.Need-new-junction-requires
 unfolding viewOf numbersOf
 new-junction-requires c κs =
@@ -52,42 +44,33 @@ new-junction-requires c κs =
     let moves = moves-below b (s .pre .1) in
     (s .pre .0, rw (n .before .limits-in .ensures) (limits-below (limitsFrom (s .args .memory .now)) .2), rw (n .numbers .ensures) (short b moves), (omega arith, omega arith, omega arith))
 
--- src/ring.rt:90:17
 slice-read-count : tie.Need-slice-read-count
 slice-read-count c = search needs
 
--- src/ring.rt:91:20
 slice-read-place : tie.Need-slice-read-place
 slice-read-place c = search needs
 
--- src/ring.rt:91:9
 place-requires : tie.Need-place-requires
 place-requires c κs = search needs
 
--- src/ring.rt:92:5
 store-place-requires : tie.Need-store-place-requires
 store-place-requires c κs = search needs
 
--- src/ring.rt:93:21
 add-memory : tie.Need-add-memory
 unfolding viewOf
 add-memory c =
     let s = c .before .before .before .before .before .before .before .before .before .before .before .before .before in
     record { fits = omega (arith, s .pre .2) }
 
--- src/ring.rt:93:5
 slice-write-memory : tie.Need-slice-write-memory
 slice-write-memory c = search needs
 
--- src/ring.rt:94:5
 walk-back-requires : tie.Need-walk-back-requires
 walk-back-requires c κs = simp length-set (stored (c .before .before .before))
 
--- src/ring.rt:83:1
 same-length : tie.Need-same-length
 same-length c = search needs
 
--- src/ring.rt:83:1
 returns : tie.Need-returns
 unfolding viewOf
 returns c =
@@ -107,17 +90,4 @@ returns c =
 
 pub put-last-spec : {M : Type 1} → statement M
 put-last-spec =
-    tie.close
-    (tie.spec
-    limits-in-requires
-    numbers-requires
-    new-junction-requires
-    slice-read-count
-    slice-read-place
-    place-requires
-    store-place-requires
-    add-memory
-    slice-write-memory
-    walk-back-requires
-    same-length
-    returns)
+    tie.close (tie.spec limits-in-requires numbers-requires new-junction-requires slice-read-count slice-read-place place-requires store-place-requires add-memory slice-write-memory walk-back-requires same-length returns)

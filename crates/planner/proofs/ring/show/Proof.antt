@@ -1,6 +1,8 @@
-use mathlib.Core.Path.{_≡_, sym, ap, _∙_}
+-- `planner::ring::show`: what is stored and what is still to be shown are the plan. Assumes nothing.
 use mathlib.Core.List.{_++_}
+use mathlib.Core.Path.{_≡_, sym, ap, _∙_}
 use Prim.Native.Nat.{_+_, _-_, _≤_}
+use borrow.Author.Needs.{needs}
 use native.Mathlib.Omega.{arith}
 use lib.ListN.{length, length-set, take}
 use Rattle.line.specs.Ring.{Place, speedsFrom}
@@ -8,13 +10,8 @@ use Rattle.planner.specs.Calls.{exitIn}
 use Rattle.planner.specs.View.{placeFrom, viewOf}
 use Rattle.planner.proofs.View.{ring-place}
 use Rattle.planner.proofs.Steps.{shows-first, shows-next, shows-last}
-use borrow.Author.Needs.{needs}
 use Rattle.planner.proofs.ring.show.Statement.{statement}
 use Rattle.planner.proofs.ring.show.Tie as tie
-use Rattle.planner.proofs.ring.show.Reads as reads
-use Rattle.planner.proofs.ring.show.Lts as lts
-use Rattle.planner.proofs.memory.exit_at.Reads as exit-at-reads
-use Rattle.planner.proofs.memory.place.Reads as place-reads
 
 abbrev Inv-loop : tie.InvT-loop
 Inv-loop memory list₀ n first entry₀ k₀ list entry k =
@@ -23,46 +20,36 @@ Inv-loop memory list₀ n first entry₀ k₀ list entry k =
 abbrev μ-loop : tie.MeasureT-loop
 μ-loop memory list₀ n first entry₀ k₀ list entry k = n - k
 
--- src/ring.rt:164:17
 shared-slice-read-first : tie.Need-shared-slice-read-first Inv-loop μ-loop
 shared-slice-read-first c = search needs
 
--- src/ring.rt:165:21
 shared-slice-read-entry : tie.Need-shared-slice-read-entry Inv-loop μ-loop
 shared-slice-read-entry c = search needs
 
--- src/ring.rt:167:5
 loop-holds : tie.Need-loop-holds Inv-loop μ-loop
 unfolding viewOf
 loop-holds c =
     let s = c .before .before .before .before in
     (omega arith, s .pre .1, shows-first (viewOf (s .args .memory .now)) (s .args .list .now) (s .args .n) (viewOf (s .args .memory .now) .committed))
 
--- src/ring.rt:168:9
 mul-list : tie.Need-mul-list Inv-loop μ-loop
 mul-list c = search needs
 
--- src/ring.rt:168:9
 slice-write-list : tie.Need-slice-write-list Inv-loop μ-loop
 slice-write-list c = search needs
 
--- src/ring.rt:169:33
 place-requires : tie.Need-place-requires Inv-loop μ-loop
 place-requires c κs = search needs
 
--- src/ring.rt:169:9
 exit-at-requires : tie.Need-exit-at-requires Inv-loop μ-loop
 exit-at-requires c κs = search needs
 
--- src/ring.rt:170:9
 add-k : tie.Need-add-k Inv-loop μ-loop
 add-k c = search needs
 
--- src/ring.rt:167:5
 loop-less : tie.Need-loop-less Inv-loop μ-loop
 loop-less c = search needs
 
--- src/ring.rt:167:5
 loop-again : tie.Need-loop-again Inv-loop μ-loop
 unfolding viewOf
 loop-again c =
@@ -70,28 +57,23 @@ loop-again c =
     let w = p .before .before in
     let s = w .before .before .before .before .before in
     let m = s .args .memory .now in
-    let here = ap (placeFrom m) (p .place .ensures .0) ∙ sym (ring-place m (w .loop .k)) in
-    (
+    let here = ap (placeFrom m) (p .place .ensures .0) ∙ sym (ring-place m (w .loop .k)) in (
       omega arith,
       simp length-set (w .loop .inv .1),
       shows-next (viewOf m) (w .loop .list) (s .args .n) (w .loop .k) (w .loop .entry) (c .exit-at .result) (p .before .loop-test .taken) (w .loop .inv .1)
-      (c .exit-at .ensures ∙ ap (λ (q : Place). exitIn q (w .loop .entry)) here)
-      ∙ w .loop .inv .2,
+          (c .exit-at .ensures ∙ ap (λ (q : Place). exitIn q (w .loop .entry)) here)
+          ∙ w .loop .inv .2,
     )
 
--- src/ring.rt:172:5
 mul-list-2 : tie.Need-mul-list-2 Inv-loop μ-loop
 mul-list-2 c = search needs
 
--- src/ring.rt:172:5
 slice-write-list-2 : tie.Need-slice-write-list-2 Inv-loop μ-loop
 slice-write-list-2 c = search needs
 
--- src/ring.rt:160:1
 same-length : tie.Need-same-length Inv-loop μ-loop
 same-length c = simp length-set (omega arith)
 
--- src/ring.rt:160:1
 returns : tie.Need-returns Inv-loop μ-loop
 returns c =
     let w = c .before in
@@ -101,21 +83,4 @@ returns c =
 
 pub show-spec : {M : Type 1} → statement M
 show-spec =
-    tie.close
-    (tie.spec
-    Inv-loop
-    μ-loop
-    shared-slice-read-first
-    shared-slice-read-entry
-    loop-holds
-    mul-list
-    slice-write-list
-    place-requires
-    exit-at-requires
-    add-k
-    loop-less
-    loop-again
-    mul-list-2
-    slice-write-list-2
-    same-length
-    returns)
+    tie.close (tie.spec Inv-loop μ-loop shared-slice-read-first shared-slice-read-entry loop-holds mul-list slice-write-list place-requires exit-at-requires add-k loop-less loop-again mul-list-2 slice-write-list-2 same-length returns)

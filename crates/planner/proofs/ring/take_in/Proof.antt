@@ -1,23 +1,18 @@
+-- `planner::ring::take_in`: one law for each way out. Assumes nothing.
 use Prim.Native.Nat.{_<_}
+use borrow.Author.Needs.{needs}
 use Rattle.planner.specs.View.{viewOf}
 use Rattle.planner.proofs.Outcomes.{take-refused, take-gave}
-use borrow.Author.Needs.{needs}
 use Rattle.planner.proofs.ring.take_in.Statement.{statement}
 use Rattle.planner.proofs.ring.take_in.Tie as tie
-use Rattle.planner.proofs.ring.take_in.Reads as reads
-use Rattle.planner.proofs.ring.take_in.Lts as lts
-use Rattle.planner.proofs.ring.give_first.Reads as give-first-reads
 
--- src/ring.rt:145:8
 slice-read-if1 : tie.Need-slice-read-if1
 slice-read-if1 c = search needs
 
--- src/ring.rt:146:9
 returns : tie.Need-returns
 unfolding viewOf
 returns c = let s = c .before .before .before in take-refused (s .args .memory .now) (s .pre) (c .if1 .taken)
 
--- src/ring.rt:148:23
 give-first-requires : tie.Need-give-first-requires
 unfolding viewOf
 give-first-requires c κs = search needs
@@ -26,11 +21,9 @@ held : (c : tie.After-give-first-arg) → 0 < viewOf (c .before .before .before 
 unfolding viewOf
 held c = let some = c .before .if1 .left in search needs
 
--- src/ring.rt:141:1
 same-length : tie.Need-same-length
 same-length c = search needs
 
--- src/ring.rt:141:1
 returns-2 : tie.Need-returns-2
 returns-2 c =
     let g = c .before .before in

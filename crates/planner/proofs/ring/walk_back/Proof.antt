@@ -1,17 +1,14 @@
+-- `planner::ring::walk_back`: the walk that is left leads to the end of the whole walk. Assumes nothing.
 use mathlib.Core.Path.{_≡_, refl, _∙_}
 use Prim.Native.Nat.{_-_, _≤_}
+use borrow.Author.Needs.{needs}
 use native.Mathlib.Omega.{arith}
 use lib.ListN.{length, length-set}
 use Rattle.line.specs.Ring.{slot, walkBack}
 use Rattle.planner.specs.View.{memorySize, baseOf, viewOf}
 use Rattle.planner.proofs.Steps.{begins, walk-ends, walk-goes-on, walk-first}
-use borrow.Author.Needs.{needs}
 use Rattle.planner.proofs.ring.walk_back.Statement.{statement}
 use Rattle.planner.proofs.ring.walk_back.Tie as tie
-use Rattle.planner.proofs.ring.walk_back.Reads as reads
-use Rattle.planner.proofs.ring.walk_back.Lts as lts
-use Rattle.planner.proofs.memory.brake_at.Reads as brake-at-reads
-use Rattle.planner.proofs.memory.place.Reads as place-reads
 
 abbrev Inv-loop : tie.InvT-loop
 Inv-loop memory₀ count first k₀ memory k = (length memory ≡ memorySize) × (viewOf memory .first ≡ first) × (k ≤ count) × (walkBack k (viewOf memory) ≡ walkBack count (viewOf memory₀))
@@ -27,48 +24,37 @@ at-is : (c : tie.After-place2 Inv-loop μ-loop) →
     c .place2 .result ≡ baseOf (slot (viewOf (c .before .before .before .before .before .loop .memory)) (c .before .before .before .before .before .loop .k - 1))
 at-is c = begins _ _ _ _ (c .before .before .before .before .before .loop .inv .1) (c .place2 .ensures .0)
 
--- src/ring.rt:69:17
 slice-read-first : tie.Need-slice-read-first Inv-loop μ-loop
 slice-read-first c = search needs
 
--- src/ring.rt:71:5
 loop-holds : tie.Need-loop-holds Inv-loop μ-loop
 unfolding viewOf
 loop-holds c = (c .before .before .pre, refl, omega arith, refl)
 
--- src/ring.rt:72:38
 place-requires : tie.Need-place-requires Inv-loop μ-loop
 place-requires c κs = search needs
 
--- src/ring.rt:72:13
 brake-at-requires : tie.Need-brake-at-requires Inv-loop μ-loop
 brake-at-requires c κs = search needs
 
--- src/ring.rt:73:9
 sub-k : tie.Need-sub-k Inv-loop μ-loop
 sub-k c = search needs
 
--- src/ring.rt:74:13
 place-requires-2 : tie.Need-place-requires-2 Inv-loop μ-loop
 place-requires-2 c κs = search needs
 
--- src/ring.rt:75:19
 add-if1 : tie.Need-add-if1 Inv-loop μ-loop
 add-if1 c = search needs
 
--- src/ring.rt:75:12
 mul-if1 : tie.Need-mul-if1 Inv-loop μ-loop
 mul-if1 c = search needs
 
--- src/ring.rt:75:12
 slice-read-if1 : tie.Need-slice-read-if1 Inv-loop μ-loop
 slice-read-if1 c = search needs
 
--- src/ring.rt:76:13
 same-length : tie.Need-same-length Inv-loop μ-loop
 same-length c = search needs
 
--- src/ring.rt:76:13
 returns : tie.Need-returns Inv-loop μ-loop
 returns c =
     let w = c .before .before .before .before .before .before in
@@ -80,42 +66,34 @@ returns c =
           ∙ w .before .loop .inv .3;
     }
 
--- src/ring.rt:78:16
 add-memory : tie.Need-add-memory Inv-loop μ-loop
 add-memory c = search needs
 
--- src/ring.rt:78:9
 mul-memory : tie.Need-mul-memory Inv-loop μ-loop
 mul-memory c = search needs
 
--- src/ring.rt:78:9
 slice-write-memory : tie.Need-slice-write-memory Inv-loop μ-loop
 slice-write-memory c = search needs
 
--- src/ring.rt:71:5
 loop-less : tie.Need-loop-less Inv-loop μ-loop
 loop-less c = search needs
 
--- src/ring.rt:71:5
 loop-again : tie.Need-loop-again Inv-loop μ-loop
 loop-again c =
     let w = c .before .before .before .before .before .before in
     let n = w .before .loop .k in
     let inv = w .before .loop .inv in
     let d = c .before .before in
-    let e = d .before .brake-at .ensures in
-    (
+    let e = d .before .brake-at .ensures in (
       simp length-set (inv .0),
       walk-first _ n (n - 1) _ _ _ (omega arith) (after-is d) (at-is d) e (inv .0) ∙ inv .1,
       omega arith,
       walk-goes-on _ n (n - 1) _ _ _ (omega arith) (after-is d) (at-is d) e (inv .0) (c .if1 .left) ∙ inv .3,
     )
 
--- src/ring.rt:65:1
 same-length-2 : tie.Need-same-length-2 Inv-loop μ-loop
 same-length-2 c = search needs
 
--- src/ring.rt:65:1
 returns-2 : tie.Need-returns-2 Inv-loop μ-loop
 unfolding walkBack
 returns-2 c =
@@ -124,25 +102,4 @@ returns-2 c =
 
 pub walk-back-spec : {M : Type 1} → statement M
 walk-back-spec =
-    tie.close
-    (tie.spec
-    Inv-loop
-    μ-loop
-    slice-read-first
-    loop-holds
-    place-requires
-    brake-at-requires
-    sub-k
-    place-requires-2
-    add-if1
-    mul-if1
-    slice-read-if1
-    same-length
-    returns
-    add-memory
-    mul-memory
-    slice-write-memory
-    loop-less
-    loop-again
-    same-length-2
-    returns-2)
+    tie.close (tie.spec Inv-loop μ-loop slice-read-first loop-holds place-requires brake-at-requires sub-k place-requires-2 add-if1 mul-if1 slice-read-if1 same-length returns add-memory mul-memory slice-write-memory loop-less loop-again same-length-2 returns-2)

@@ -1,82 +1,64 @@
-use mathlib.Core.Path.{_≡_, _∙_}
+-- `planner_c::hand_out`: both lists are stored whole. Assumes nothing.
 use mathlib.Core.List.{[], _∷_}
-use lib.Seq.{sets}
-use Rattle.arith.proofs.SignedLaws.{field-back}
-use Rattle.planner.specs.Exports.{movesFor, givenNumbers}
-use Rattle.planner.proofs.Displayed.{sets-all}
+use mathlib.Core.Path.{_∙_}
+use borrow.Author.Needs.{needs}
 use native.Mathlib.Omega.{arith}
 use lib.ListN.{length-set}
-use borrow.Author.Needs.{needs}
-use Rattle.planner.proofs.exports.hand_out.Statement.{statement}
-use Rattle.planner.proofs.exports.hand_out.Tie as tie
-use Rattle.planner.proofs.exports.hand_out.Reads as reads
-use Rattle.planner.proofs.exports.hand_out.Lts as lts
+use lib.Seq.{sets}
+use Rattle.arith.proofs.SignedLaws.{field-back}
+use Rattle.planner_c.specs.Exports.{movesFor, givenNumbers}
+use Rattle.planner_c.proofs.Displayed.{sets-all}
+use Rattle.planner_c.proofs.hand_out.Statement.{statement}
+use Rattle.planner_c.proofs.hand_out.Tie as tie
 
--- src/exports.rt:109:5
 slice-set-from-x : tie.Need-slice-set-from-x
 slice-set-from-x c = search needs
 
--- src/exports.rt:110:5
 slice-set-from-y : tie.Need-slice-set-from-y
 slice-set-from-y c = search needs
 
--- src/exports.rt:111:5
 slice-set-from-z : tie.Need-slice-set-from-z
 slice-set-from-z c = search needs
 
--- src/exports.rt:112:5
 slice-write-numbers : tie.Need-slice-write-numbers
 slice-write-numbers c = search needs
 
--- src/exports.rt:113:5
 slice-write-numbers-2 : tie.Need-slice-write-numbers-2
 slice-write-numbers-2 c = simp length-set (omega arith)
 
--- src/exports.rt:114:5
 slice-write-numbers-3 : tie.Need-slice-write-numbers-3
 slice-write-numbers-3 c = simp length-set (omega arith)
 
--- src/exports.rt:115:5
 slice-write-numbers-4 : tie.Need-slice-write-numbers-4
 slice-write-numbers-4 c = simp length-set (omega arith)
 
--- src/exports.rt:116:5
 slice-write-numbers-5 : tie.Need-slice-write-numbers-5
 slice-write-numbers-5 c = simp length-set (omega arith)
 
--- src/exports.rt:117:5
 slice-write-numbers-6 : tie.Need-slice-write-numbers-6
 slice-write-numbers-6 c = simp length-set (omega arith)
 
--- src/exports.rt:118:5
 slice-write-numbers-7 : tie.Need-slice-write-numbers-7
 slice-write-numbers-7 c = simp length-set (omega arith)
 
--- src/exports.rt:119:5
 slice-write-numbers-8 : tie.Need-slice-write-numbers-8
 slice-write-numbers-8 c = simp length-set (omega arith)
 
--- src/exports.rt:120:5
 slice-write-numbers-9 : tie.Need-slice-write-numbers-9
 slice-write-numbers-9 c = simp length-set (omega arith)
 
--- src/exports.rt:121:5
 slice-write-numbers-10 : tie.Need-slice-write-numbers-10
 slice-write-numbers-10 c = simp length-set (omega arith)
 
--- src/exports.rt:122:5
 slice-write-numbers-11 : tie.Need-slice-write-numbers-11
 slice-write-numbers-11 c = simp length-set (omega arith)
 
--- src/exports.rt:100:1
 same-length : tie.Need-same-length
 same-length c = search needs
 
--- src/exports.rt:100:1
 same-length-2 : tie.Need-same-length-2
 same-length-2 c = simp length-set
 
--- src/exports.rt:100:1
 returns : tie.Need-returns
 returns c =
     let s = c .before .before .before .before .before in
@@ -91,22 +73,4 @@ returns c =
 
 pub hand-out-spec : {M : Type 1} → statement M
 hand-out-spec =
-    tie.close
-    (tie.spec
-    slice-set-from-x
-    slice-set-from-y
-    slice-set-from-z
-    slice-write-numbers
-    slice-write-numbers-2
-    slice-write-numbers-3
-    slice-write-numbers-4
-    slice-write-numbers-5
-    slice-write-numbers-6
-    slice-write-numbers-7
-    slice-write-numbers-8
-    slice-write-numbers-9
-    slice-write-numbers-10
-    slice-write-numbers-11
-    same-length
-    same-length-2
-    returns)
+    tie.close (tie.spec slice-set-from-x slice-set-from-y slice-set-from-z slice-write-numbers slice-write-numbers-2 slice-write-numbers-3 slice-write-numbers-4 slice-write-numbers-5 slice-write-numbers-6 slice-write-numbers-7 slice-write-numbers-8 slice-write-numbers-9 slice-write-numbers-10 slice-write-numbers-11 same-length same-length-2 returns)

@@ -1,27 +1,21 @@
-use mathlib.Core.Path.{_≡_, subst}
+-- `planner_c::fullerecru_add`: the promise of `add` at the block, by its number. Assumes nothing.
+use mathlib.Core.Path.{subst}
+use borrow.Author.Needs.{needs}
 use Rattle.arith.proofs.SignedLaws.{read-back}
 use Rattle.machine.specs.declared.Block.{Block}
-use Rattle.line.specs.Blocks.{add}
 use Rattle.line.specs.Answers.{addMeans}
+use Rattle.line.specs.Blocks.{add}
 use Rattle.planner.specs.Calls.{Called}
-use Rattle.planner.proofs.Displayed.{exported}
-use borrow.Author.Needs.{needs}
-use Rattle.planner.proofs.exports.fullerecru_add.Statement.{statement}
-use Rattle.planner.proofs.exports.fullerecru_add.Tie as tie
-use Rattle.planner.proofs.exports.fullerecru_add.Reads as reads
-use Rattle.planner.proofs.exports.fullerecru_add.Lts as lts
-use Rattle.planner.proofs.add.Reads as add-reads
-use Rattle.planner.proofs.exports.added_number.Reads as added-number-reads
+use Rattle.planner_c.proofs.Displayed.{exported}
+use Rattle.planner_c.proofs.fullerecru_add.Statement.{statement}
+use Rattle.planner_c.proofs.fullerecru_add.Tie as tie
 
--- src/exports.rt:155:18
 add-requires : tie.Need-add-requires
 add-requires c κs = search needs
 
--- src/exports.rt:155:5
 added-number-requires : tie.Need-added-number-requires
 added-number-requires c κs = search needs
 
--- src/exports.rt:135:1
 returns : tie.Need-returns
 returns c =
     let a = c .before in

@@ -1,16 +1,16 @@
 -- What the functions for C return and leave in the lists that they are lent.
-use mathlib.Core.Path.{_≡_}
 use mathlib.Core.List.{List, [], _∷_}
+use mathlib.Core.Path.{_≡_}
 use Prim.Native.Nat.{ℕ}
 use lib.IntN.{ℤ}
 use lib.ListN.{length}
-use Rattle.line.specs.declared.Given.{Given}
 use Rattle.line.specs.Answers.{Answer, accepted, gave, refused}
 use Rattle.line.specs.Blocks.{Call, Line, lineAnswer, lineAfter}
 use Rattle.line.specs.Holds.{Holds}
 use Rattle.line.specs.Ring.{ringAnswer, ringAfter, showRefusal}
+use Rattle.line.specs.declared.Given.{Given}
 use Rattle.planner.specs.Calls.{shownList}
 use Rattle.planner.specs.View.{memorySize, viewOf}
 
 -- the number on the display; 0 says accepted
 abbrev pub answerNumber : Answer → ℕ

@@ -7,15 +7,9 @@ ghost use Rattle.machine.specs.Checks.{checkedNumber, refusalNumber};
 ghost use Rattle.line.specs.Answers.{addMeans, showMeans};
 ghost use Rattle.line.specs.Blocks as blocks;
 ghost use Rattle.line.specs.Ring.{ringAnswer};
 ghost use Rattle.planner.specs.Calls.{Freshened, Told};
-ghost use Rattle.planner.specs.Exports.{Exported, Gave, Lent, Listed, answerNumber};
+ghost use Rattle.planner_c.specs.Exports.{Exported, Gave, Lent, Listed, answerNumber};
 ghost use Rattle.planner.specs.View.{limitsFrom, viewOf};
-use crate::NUMBERS;
-use crate::add;
-use crate::fresh;
-use crate::shown;
-use crate::take;
-use crate::told;
 use line::AddAnswer;
 use line::Given;
 use line::ShowAnswer;
@@ -25,6 +19,12 @@ use machine::Block;
 use machine::Checked;
 use machine::Limits;
 use machine::Refusal;
+use planner::NUMBERS;
+use planner::add;
+use planner::fresh;
+use planner::shown;
+use planner::take;
+use planner::told;
 
 // The number on the display of a refusal.
 fn refusal_number(why: Refusal) -> u64

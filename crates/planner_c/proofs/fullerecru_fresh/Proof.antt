@@ -1,30 +1,22 @@
-use mathlib.Core.Path.{_≡_, ap, _∙_}
+-- `planner_c::fullerecru_fresh`: the promise of `fresh` at the limits that were read. Assumes nothing.
+use mathlib.Core.Path.{ap, _∙_}
+use borrow.Author.Needs.{needs}
 use Rattle.machine.specs.Checks.{limitsRefusal}
 use Rattle.machine.specs.declared.Limits.{Limits}
 use Rattle.planner.specs.Calls.{freshIn}
 use Rattle.planner.specs.View.{viewOf}
-use borrow.Author.Needs.{needs}
-use Rattle.planner.proofs.exports.fullerecru_fresh.Statement.{statement}
-use Rattle.planner.proofs.exports.fullerecru_fresh.Tie as tie
-use Rattle.planner.proofs.exports.fullerecru_fresh.Reads as reads
-use Rattle.planner.proofs.exports.fullerecru_fresh.Lts as lts
-use Rattle.planner.proofs.exports.checked_number.Reads as checked-number-reads
-use Rattle.planner.proofs.exports.limits_of.Reads as limits-of-reads
-use Rattle.planner.proofs.fresh.Reads as fresh-reads
+use Rattle.planner_c.proofs.fullerecru_fresh.Statement.{statement}
+use Rattle.planner_c.proofs.fullerecru_fresh.Tie as tie
 
--- src/exports.rt:131:34
 limits-of-requires : tie.Need-limits-of-requires
 limits-of-requires c κs = search needs
 
--- src/exports.rt:131:20
 fresh-requires : tie.Need-fresh-requires
 fresh-requires c κs = search needs
 
--- src/exports.rt:131:5
 checked-number-requires : tie.Need-checked-number-requires
 checked-number-requires c κs = search needs
 
--- src/exports.rt:127:1
 returns : tie.Need-returns
 returns c =
     let f = c .before in
@@ -35,6 +27,7 @@ returns c =
       sized = e .sized;
       answer = c .checked-number .ensures ∙ e .answer ∙ ap limitsRefusal (l .limits-of .ensures);
       after = e .after ∙ ap (λ (x : Limits). freshIn (limitsRefusal x) (viewOf m) x) (l .limits-of .ensures);
+      line = λ z. rw (l .limits-of .ensures) at (e .line (sym (c .checked-number .ensures) ∙ z));
     }
 
 pub fullerecru-fresh-spec : {M : Type 1} → statement M

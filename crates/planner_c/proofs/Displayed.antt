@@ -1,17 +1,17 @@
 -- From a call's promise to that of the function for C. Assumes nothing.
-use mathlib.Core.Path.{_≡_, refl, sym, ap, _∙_}
-use mathlib.Core.List.{List, [], _∷_, _++_, append-nil}
-use Prim.Native.Nat.{ℕ, zero, suc, _+_, _≤_}
+use mathlib.Core.List.{List, append-nil}
+use mathlib.Core.Path.{_≡_, refl, ap, _∙_}
+use Prim.Native.Nat.{ℕ, zero, suc, _+_}
 use native.Mathlib.Omega.{arith}
 use lib.IntN.{ℤ}
-use lib.ListN.{length, take, drop}
+use lib.ListN.{length}
 use lib.Seq.{sets, sets-eq, drop-length}
 use Rattle.line.specs.Answers.{Answer}
 use Rattle.line.specs.Blocks.{Call, addAnswer}
 use Rattle.line.specs.Ring.{ringAnswer}
-use Rattle.planner.specs.View.{viewOf}
 use Rattle.planner.specs.Calls.{Called, Showed}
-use Rattle.planner.specs.Exports.{answerNumber, movesAfter, numbersAfter, Exported, Lent, Listed}
+use Rattle.planner.specs.View.{viewOf}
+use Rattle.planner_c.specs.Exports.{answerNumber, movesAfter, numbersAfter, Exported, Lent, Listed}
 
 -- A list stored from its begin to its end is what was stored.
 pub sets-all : {A : Type 0} (vs l : List A) → length l ≡ length vs → sets l 0 vs ≡ vs
