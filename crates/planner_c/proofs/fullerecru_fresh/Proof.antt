@@ -1,5 +1,5 @@
 -- `planner_c::fullerecru_fresh`: the promise of `fresh` at the limits that were read. Assumes nothing.
-use mathlib.Core.Path.{ap, _∙_}
+use mathlib.Core.Path.{sym, ap, _∙_}
 use borrow.Author.Needs.{needs}
 use Rattle.machine.specs.Checks.{limitsRefusal}
 use Rattle.machine.specs.declared.Limits.{Limits}
