@@ -1,15 +1,18 @@
 -- Document 01's starred proof cases, in its order: what the definitions compute, and what the paper says.
 -- The theorem `every-case-holds` of `proofs/` proves them together.
-use mathlib.Core.List.{List, [], _∷_}
+use mathlib.Core.List.{List, [], _∷_, _++_, map}
 use mathlib.Core.Path.{_≡_}
 use Prim.Native.Nat.{ℕ}
 use lib.IntN.{pos, negℤ}
+use lib.ListN.{replicate}
 use Rattle.profile.specs.Line.{numberAt}
 use Rattle.profile.specs.Passes.{planOf}
 use Rattle.machine.specs.Numbers.{CornerCap, none, upTo, lengthOf, accelOf, reachOf, chordCap, blockCap, cornerCap, numbersOf, rampOf}
 use Rattle.machine.specs.Line.{stepsOf}
 use Rattle.machine.specs.declared.Block.{Block}
 use Rattle.machine.specs.declared.Ramp.{Ramp}
+use Rattle.line.specs.Answers.{Answer, accepted, gave, refused}
+use Rattle.line.specs.Blocks.{Call, add, take, freshLine, lineAnswers}
 use Rattle.cases.specs.Shop.{machineM, curved, block}
 
 -- a case: the numbers that are computed, and those of the paper
@@ -52,6 +55,16 @@ rampNumbers r = r .peak ∷ r .up ∷ r .cruise ∷ r .down ∷ []
 abbrev firstRamp : Block → List Block → List ℕ
 firstRamp b rest = rampNumbers (rampOf (numbersOf machineM b) (numberAt (plan (b ∷ rest)) 0) (numberAt (plan (b ∷ rest)) 1))
 
+-- the number on the display of an answer: 0 for a block added or given out
+abbrev display : Answer → ℕ
+display accepted = 0
+display (gave g) = 0
+display (refused n) = n
+
+-- the numbers that a list of calls shows, from a fresh planner on machine M
+abbrev displayed : List Call → List ℕ
+displayed calls = map display (lineAnswers (freshLine machineM) calls)
+
 unfoldable pub table : List Case
 table =
     -- Lengths: (1,0,0) 1; (1,1,0) 1; (2,2,1) 3; three times 1,000,000 gives 1,732,050
@@ -74,4 +87,6 @@ table =
     ∷ (firstRamp east [] gives 200_000_000 ∷ 500 ∷ 0 ∷ 500 ∷ [])
     -- Two blocks (1000,0,0): plan 0, 400,000,000, 0
     ∷ (plan (east ∷ east ∷ []) gives 0 ∷ 400_000_000 ∷ 0 ∷ [])
+    -- Add 64 is taken, 65 is refused by 7; after one take it is accepted
+    ∷ (displayed (replicate 65 (add east) ++ take ∷ add east ∷ []) gives (replicate 64 0 ++ 7 ∷ 0 ∷ 0 ∷ []))
     ∷ []
