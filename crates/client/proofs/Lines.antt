@@ -1,0 +1,131 @@
+-- The lines of the worked results, by computation. Assumes nothing.
+use mathlib.Core.List.{List, [], _∷_}
+use mathlib.Core.Path.{_≡_, refl, ap, _∙_}
+use Prim.Native.Nat.{ℕ}
+use native.Mathlib.Omega.{arith}
+use lib.IntN.{pos}
+use lib.ListN.{length}
+use Rattle.arith.specs.Root.{rootOf, rootByDigits, nextRoot}
+use Rattle.arith.specs.Quotient.{cappedQuotient}
+use Rattle.profile.specs.Passes.{brake, startLimit, forward, planOf}
+use Rattle.machine.specs.Checks.{limitsWithin, limitsRefusal, greatestMove, blockRefusal}
+use Rattle.machine.specs.Numbers.{lengthFrom, axisLimit, eachAxis, speedOf, torquePercent, axisAccel, accelOf, reachFrom, chordFactor, blockCapFrom, numbersOf, turnFrom, cornerFrom, cornerCap, junctionCap, peakOf, upOf, downOf, rampOf}
+use Rattle.machine.specs.Line.{stepsAfter, stepsOf}
+use Rattle.machine.specs.declared.Block.{Block}
+use Rattle.machine.specs.declared.Limits.{Limits}
+use Rattle.line.specs.Answers.{Answer, accepted, gave, refused, givenOf}
+use Rattle.line.specs.Blocks.{add, take, addAnswer, freshLine, linePlan, lineAnswer, lineAfter}
+use Rattle.line.specs.Holds.{Holds}
+use Rattle.line.specs.Ring.{Ring, showRefusal}
+use Rattle.line.specs.declared.Given.{Given}
+use Rattle.line.proofs.Shows.{holds-refusal}
+use Rattle.planner.specs.Calls.{Freshened, Called, shownList}
+use Rattle.planner.specs.View.{viewOf}
+use Rattle.cases.specs.Shop.{machineM}
+use Rattle.client.specs.Work.{Gives, blockOf, lineOfOne, lineOfTwo}
+
+-- machine M passes 1
+pub limits-pass : limitsRefusal machineM ≡ 0
+unfolding limitsRefusal limitsWithin
+limits-pass = refl
+
+-- the plan of two blocks straight on
+pub straight-plan : linePlan (lineOfTwo (blockOf (pos 1_000) (pos 0) 0) (blockOf (pos 1_000) (pos 0) 0)) ≡ 0 ∷ 400_000_000 ∷ 0 ∷ []
+unfolding lineAfter rootOf rootByDigits nextRoot cappedQuotient brake startLimit forward planOf lengthFrom axisLimit eachAxis speedOf torquePercent axisAccel accelOf reachFrom chordFactor blockCapFrom numbersOf turnFrom cornerFrom cornerCap junctionCap stepsAfter stepsOf greatestMove blockRefusal
+straight-plan = refl
+
+-- one block added to a fresh planner on machine M, and two: the memory holds their line
+held-fresh : {m n : List ℕ} {l : Limits} {refusal : ℕ} → l ≡ machineM → Freshened m l refusal n → Holds (viewOf n) (freshLine machineM)
+held-fresh e f = rw e at (f .line (f .answer ∙ ap limitsRefusal e ∙ limits-pass))
+
+module _ (a b : Block) {m n p : List ℕ} {l : Limits} {refusal : ℕ} {x : Block} {said : Answer} (el : l ≡ machineM) (ex : x ≡ a) where
+  pub held-one : Freshened m l refusal n → Called n (add x) said p → Holds (viewOf p) (lineOfOne a)
+  held-one f g = rw ex at (g .line (freshLine machineM) (held-fresh el f) .1)
+
+  pub held-two : {q : List ℕ} {y : Block} {also : Answer} → y ≡ b → Freshened m l refusal n → Called n (add x) said p → Called p (add y) also q → Holds (viewOf q) (lineOfTwo a b)
+  held-two ey f g h = rw ey at (h .line (lineOfOne a) (held-one f g) .1)
+
+-- the right-angle pair
+abbrev pub east : Block
+east = blockOf (pos 1_000) (pos 0) 7
+
+abbrev pub north : Block
+north = blockOf (pos 0) (pos 1_000) 8
+
+-- its first block, as the line gives it out
+first-answer : lineAnswer (lineOfTwo east north) take ≡ gave (givenOf machineM east 0 2_000_000)
+unfolding lineAfter lineAnswer givenOf rootOf rootByDigits nextRoot cappedQuotient brake startLimit forward planOf lengthFrom axisLimit eachAxis speedOf torquePercent axisAccel accelOf reachFrom chordFactor blockCapFrom numbersOf turnFrom cornerFrom cornerCap junctionCap peakOf upOf downOf rampOf stepsAfter stepsOf greatestMove blockRefusal
+first-answer = refl
+
+-- and its second
+second-answer : lineAnswer (lineAfter (lineOfTwo east north) take) take ≡ gave (givenOf machineM north 2_000_000 0)
+unfolding lineAfter lineAnswer givenOf rootOf rootByDigits nextRoot cappedQuotient brake startLimit forward planOf lengthFrom axisLimit eachAxis speedOf torquePercent axisAccel accelOf reachFrom chordFactor blockCapFrom numbersOf turnFrom cornerFrom cornerCap junctionCap peakOf upOf downOf rampOf stepsAfter stepsOf greatestMove blockRefusal
+second-answer = refl
+
+first-numbers : Gives (givenOf machineM east 0 2_000_000) 7 0 2_000_000 502 497
+unfolding lineAfter lineAnswer givenOf rootOf rootByDigits nextRoot cappedQuotient brake startLimit forward planOf lengthFrom axisLimit eachAxis speedOf torquePercent axisAccel accelOf reachFrom chordFactor blockCapFrom numbersOf turnFrom cornerFrom cornerCap junctionCap peakOf upOf downOf rampOf stepsAfter stepsOf greatestMove blockRefusal
+first-numbers = record { mark-is = refl; length-is = refl; accel-is = refl; entry-is = refl; exit-is = refl; peak-is = refl; up-is = refl; cruise-is = refl; down-is = refl }
+
+second-numbers : Gives (givenOf machineM north 2_000_000 0) 8 2_000_000 0 497 502
+unfolding lineAfter lineAnswer givenOf rootOf rootByDigits nextRoot cappedQuotient brake startLimit forward planOf lengthFrom axisLimit eachAxis speedOf torquePercent axisAccel accelOf reachFrom chordFactor blockCapFrom numbersOf turnFrom cornerFrom cornerCap junctionCap peakOf upOf downOf rampOf stepsAfter stepsOf greatestMove blockRefusal
+second-numbers = record { mark-is = refl; length-is = refl; accel-is = refl; entry-is = refl; exit-is = refl; peak-is = refl; up-is = refl; cruise-is = refl; down-is = refl }
+
+same-given : (g h : Given) → gave g ≡ gave h → g ≡ h
+same-given g h e = cc
+
+pub gives-first : (g : Given) → gave g ≡ lineAnswer (lineOfTwo east north) take → Gives g 7 0 2_000_000 502 497
+gives-first g e = rw (same-given g _ (e ∙ first-answer)) first-numbers
+
+pub gives-second : (g : Given) → gave g ≡ lineAnswer (lineAfter (lineOfTwo east north) take) take → Gives g 8 2_000_000 0 497 502
+gives-second g e = rw (same-given g _ (e ∙ second-answer)) second-numbers
+
+never-refused : (n : ℕ) (g : Given) → refused n ≡ gave g → ⊥
+never-refused n g e = let z : _≡_ {A = ℕ} 0 1 = cc in omega arith
+
+pub first-given : (n : ℕ) → refused n ≡ lineAnswer (lineOfTwo east north) take → ⊥
+first-given n e = never-refused n _ (e ∙ first-answer)
+
+pub second-given : (n : ℕ) → refused n ≡ lineAnswer (lineAfter (lineOfTwo east north) take) take → ⊥
+second-given n e = never-refused n _ (e ∙ second-answer)
+
+-- a block along X, and one that does not move
+abbrev pub ahead : Block
+ahead = blockOf (pos 1_000) (pos 0) 0
+
+abbrev pub still : Block
+still = blockOf (pos 0) (pos 0) 0
+
+-- the latter is refused by 2, and the line stays
+still-answer : lineAnswer (lineOfOne ahead) (add still) ≡ refused 2
+unfolding lineAnswer lineAfter greatestMove blockRefusal
+still-answer = refl
+
+pub still-held : length (lineAfter (lineOfOne ahead) (add still) .blocks) ≡ 1
+unfolding lineAfter greatestMove blockRefusal
+still-held = refl
+
+same-number : (n m : ℕ) → refused n ≡ refused m → n ≡ m
+same-number n m e = cc
+
+not-accepted : (n : ℕ) → accepted ≡ refused n → ⊥
+not-accepted n e = let z : _≡_ {A = ℕ} 0 1 = cc in omega arith
+
+pub still-number : (n : ℕ) → refused n ≡ lineAnswer (lineOfOne ahead) (add still) → n ≡ 2
+still-number n e = same-number n 2 (e ∙ still-answer)
+
+pub still-refused : accepted ≡ lineAnswer (lineOfOne ahead) (add still) → ⊥
+still-refused e = not-accepted 2 (e ∙ still-answer)
+
+-- a list of one number is refused by 11 where one block is held
+short-refusal : {r : Ring} → Holds r (lineOfOne ahead) → showRefusal r 1 ≡ 11
+unfolding lineAfter greatestMove blockRefusal
+short-refusal h = holds-refusal h 1
+
+pub shown-refused : {r : Ring} → Holds r (lineOfOne ahead) → accepted ≡ addAnswer (showRefusal r 1) → ⊥
+shown-refused h e = not-accepted 11 (e ∙ ap addAnswer (short-refusal h))
+
+pub short-number : {r : Ring} (n : ℕ) → Holds r (lineOfOne ahead) → refused n ≡ addAnswer (showRefusal r 1) → n ≡ 11
+short-number n h e = same-number n 11 (e ∙ ap addAnswer (short-refusal h))
+
+pub short-kept : {r : Ring} {exit held : List ℕ} → Holds r (lineOfOne ahead) → exit ≡ shownList (showRefusal r 1) r held → exit ≡ held
+short-kept {r} {exit} {held} h e = e ∙ ap (λ (n : ℕ). shownList n r held) (short-refusal h)

@@ -1,0 +1,2 @@
+-- The blocks of the worked results.
+pub mod Work

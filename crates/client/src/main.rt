@@ -1,0 +1,116 @@
+// A client of the planner: worked results of document 01, each shown from the planner's promises alone.
+ghost use mathlib.Core.Path.{_≡_};
+ghost use Rattle.client.specs.Work.{Gives, blockOf};
+use cases::machine_m;
+use line::AddAnswer;
+use line::Given;
+use line::ShowAnswer;
+use line::TakeAnswer;
+use machine::Block;
+use planner::Planner;
+
+// A block of feed 20,000 µm/s along X and Y, µm.
+fn block(x: i64, y: i64, mark: u64) -> Block
+    ensures { λ r. ⌜ r ≡ blockOf x y mark ⌝ }
+{
+    Block {
+        x: x,
+        y: y,
+        z: 0,
+        feed: 20_000,
+        radius: 0,
+        mark: mark,
+    }
+}
+
+// A block given out with a mark, entry and exit, (µm/s)², and the ramp of the right-angle pair, µm.
+fn expect_given(g: Given, mark: u64, entry: u64, exit: u64, up: u64, down: u64)
+    requires { ⌜ Gives g mark entry exit up down ⌝ }
+{
+    let b = g.block;
+    check::expect(b.mark == mark);
+    check::expect(g.length == 1_000);
+    check::expect(g.accel == 200_000);
+    check::expect(g.entry == entry);
+    check::expect(g.exit == exit);
+    let ramp = g.ramp;
+    check::expect(ramp.peak == 201_000_000);
+    check::expect(ramp.up == up);
+    check::expect(ramp.cruise == 1);
+    check::expect(ramp.down == down);
+}
+
+// Two blocks straight on: the plan is 0, 400,000,000, 0.
+fn two_blocks() {
+    let made = Planner::fresh(machine_m());
+    let fresh = made.planner;
+    let one = fresh.add(block(1_000, 0, 0));
+    let held = one.planner;
+    let two = held.add(block(1_000, 0, 0));
+    let both = two.planner;
+    let mut list = [7u64; 3];
+    both.shown(&mut list);
+    check::expect(list[0] == 0);
+    check::expect(list[1] == 400_000_000);
+    check::expect(list[2] == 0);
+}
+
+// The right-angle pair, marks 7 and 8: each block is given out with its speeds and its ramp.
+fn right_angle() {
+    let made = Planner::fresh(machine_m());
+    let fresh = made.planner;
+    let one = fresh.add(block(1_000, 0, 7));
+    let held = one.planner;
+    let two = held.add(block(0, 1_000, 8));
+    let both = two.planner;
+    let first = both.take();
+    let left = first.planner;
+    let second = left.take();
+    let before = first.answer;
+    match before {
+        TakeAnswer::Given(g) => expect_given(g, 7, 0, 2_000_000, 502, 497),
+        TakeAnswer::Refused(_) => check::expect(false),
+    }
+    let after = second.answer;
+    match after {
+        TakeAnswer::Given(g) => expect_given(g, 8, 2_000_000, 0, 497, 502),
+        TakeAnswer::Refused(_) => check::expect(false),
+    }
+}
+
+// A block that does not move is refused, and the number told stays as it was.
+fn refused_still() {
+    let made = Planner::fresh(machine_m());
+    let fresh = made.planner;
+    let one = fresh.add(block(1_000, 0, 0));
+    let held = one.planner;
+    let none = held.add(block(0, 0, 0));
+    let answer = none.answer;
+    match answer {
+        AddAnswer::Added => check::expect(false),
+        AddAnswer::Refused(why) => check::expect(machine::check::refusal_number(why) == 2),
+    }
+    let same = none.planner;
+    check::expect(same.told() == 1);
+}
+
+// A list as long as the blocks is one too short: 11, and it holds what it held.
+fn short_list() {
+    let made = Planner::fresh(machine_m());
+    let fresh = made.planner;
+    let one = fresh.add(block(1_000, 0, 0));
+    let held = one.planner;
+    let mut list = [7u64; 1];
+    match held.shown(&mut list) {
+        ShowAnswer::Shown => check::expect(false),
+        ShowAnswer::Refused(why) => check::expect(machine::check::refusal_number(why) == 11),
+    }
+    check::expect(list[0] == 7);
+}
+
+fn main() {
+    two_blocks();
+    right_angle();
+    refused_still();
+    short_list();
+}
