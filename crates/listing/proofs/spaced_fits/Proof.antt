@@ -1,0 +1,88 @@
+-- `listing::spaced_fits`: what is left over is the same, counted from any number on, from `length-spaced`.
+use mathlib.Core.Path.{_≡_, refl}
+use Prim.Native.Nat.{ℕ, _+_, _-_, _≤_}
+use native.Mathlib.Omega.{arith}
+use mathlib.Core.List.{List}
+use lib.ListN.{length, getD, drop}
+use lib.Seq.{drop-length}
+use borrow.Author.Tests.{le-leb, lt-leb}
+use Rattle.listing.specs.Text.{decimal, spaced}
+use Rattle.listing.proofs.Lines.{length-spaced}
+use borrow.Author.Needs.{needs}
+use Rattle.listing.proofs.spaced_fits.Statement.{statement}
+use Rattle.listing.proofs.spaced_fits.Tie as tie
+
+abbrev Inv-loop : tie.InvT-loop
+Inv-loop numbers room left₀ i₀ left i =
+    (i ≤ length numbers) × (left + length (spaced numbers) ≡ room + length (spaced (drop i numbers)))
+
+abbrev μ-loop : tie.MeasureT-loop
+μ-loop numbers room left₀ i₀ left i = length numbers - i
+
+-- What the number of this turn takes.
+module _ (c : tie.In-loop Inv-loop μ-loop) where
+  abbrev numbers : List ℕ
+  numbers = c .before .before .before .args .numbers .now
+
+  abbrev at-turn : ℕ
+  at-turn = c .before .loop .i
+
+  taken : length (spaced (drop at-turn numbers)) ≡ length (decimal (getD numbers at-turn 0)) + 1 + length (spaced (drop (at-turn + 1) numbers))
+  taken = length-spaced numbers at-turn (c .loop-test .taken)
+
+loop-holds : tie.Need-loop-holds Inv-loop μ-loop
+loop-holds c = (omega arith, refl)
+
+mul-digits : tie.Need-mul-digits Inv-loop μ-loop
+mul-digits c = search needs
+
+shared-slice-read-digits : tie.Need-shared-slice-read-digits Inv-loop μ-loop
+shared-slice-read-digits c = search needs
+
+digits-requires : tie.Need-digits-requires Inv-loop μ-loop
+digits-requires c κs = search needs
+
+returns : tie.Need-returns Inv-loop μ-loop
+returns c =
+    let s = c .before .before .before .before .before .before .args in
+    rw (lt-leb (length (spaced (s .numbers .now))) (s .room) (omega (arith, taken (c .before .before .before))))
+
+add-left : tie.Need-add-left Inv-loop μ-loop
+add-left c = search needs
+
+sub-left : tie.Need-sub-left Inv-loop μ-loop
+sub-left c = search needs
+
+add-i : tie.Need-add-i Inv-loop μ-loop
+add-i c = search needs
+
+loop-less : tie.Need-loop-less Inv-loop μ-loop
+loop-less c = search needs
+
+loop-again : tie.Need-loop-again Inv-loop μ-loop
+loop-again c = (search needs, omega (arith, taken (c .before .before .before)))
+
+returns-2 : tie.Need-returns-2 Inv-loop μ-loop
+unfolding spaced
+returns-2 c =
+    let e : c .before .loop .i ≡ length (c .before .before .before .args .numbers .now) = omega arith in
+    let s = c .before .before .before .args in
+    rw (le-leb (length (spaced (s .numbers .now))) (s .room) (omega (arith, rw (e, drop-length) at (c .before .loop .inv .1))))
+
+pub spaced-fits-spec : {M : Type 1} → statement M
+spaced-fits-spec =
+    tie.close
+    (tie.spec
+    Inv-loop
+    μ-loop
+    loop-holds
+    mul-digits
+    shared-slice-read-digits
+    digits-requires
+    returns
+    add-left
+    sub-left
+    add-i
+    loop-less
+    loop-again
+    returns-2)
