@@ -32,7 +32,7 @@ pub data Call : Type 0 where
   add : Block → Call
   take : Call
 
--- an add is refused by the first of 2 to 6 that its block meets, else by 7 if the line has 64 blocks
+-- an add: its block is checked first (2 to 6), then the room (7)
 abbrev pub addRefusal : (held : ℕ) → Block → ℕ
 addRefusal held b = firstOf (blockRefusal b) (pick (leb mostHeld held) 7 0)
 

@@ -38,7 +38,7 @@ abbrev pub ChordFits : Limits → (radius : ℕ) → ℕ → Type 0
 ChordFits l radius q = q * (l .tick * l .tick) ≤ chordFactor l radius * 1_000_000_000_000
 
 -- what a corner cap is between blocks with P = `product` and S = `sum`: none where S ≥ P, otherwise, with the turn
--- P - S above 0, the largest q with q × 2 × (P - S) ≤ J × J × P
+-- P - S above 0, the greatest number that the rule allows
 abbrev pub CornerIs : (jump product : ℕ) (sum : ℤ) → CornerCap → Type 0
 CornerIs jump product sum none = pos product ≤ℤ sum
 CornerIs jump product sum (upTo q) =
@@ -53,6 +53,6 @@ CornerFits (upTo cap) q = q ≤ cap
 abbrev pub JunctionFits : Limits → (a b : Block) → ℕ → Type 0
 JunctionFits l a b q = (q ≤ blockCap l a) × (q ≤ blockCap l b) × CornerFits (cornerCap l a b) q
 
--- a peak p not above the block cap with 2 × p - entry - exit ≤ reach
+-- a peak under the block cap whose rise and fall together stay within the reach
 abbrev pub PeakFits : (cap reach entry exit : ℕ) → ℕ → Type 0
 PeakFits cap reach entry exit p = (p ≤ cap) × (2 * p ≤ reach + entry + exit)

@@ -29,7 +29,7 @@ AxesBelow bound a = (a .x < bound) × (a .y < bound) × (a .z < bound)
 abbrev pub LimitsBelow : Limits → Type 0
 LimitsBelow l = AxesBelow (2 ^ 32) (l .accel) × AxesBelow (2 ^ 32) (l .speed) × (l .jump < 2 ^ 32) × (l .chord < 2 ^ 32) × (l .tick < 2 ^ 32)
 
--- Length L: the largest whole number whose square is not above the sum of the three squared moves
+-- Length L: the root of the sum of the squared moves, rounded down
 unfoldable pub lengthFrom : Axes → ℕ
 lengthFrom m = rootOf (unit * unit * (m .x * m .x + m .y * m .y + m .z * m .z))
 
@@ -44,7 +44,7 @@ axisLimit cap limit length step = cappedQuotient cap (limit * length) (unit * st
 unfoldable pub eachAxis : (cap : ℕ) (limits : Axes) (length : ℕ) (m : Axes) → ℕ
 eachAxis cap limits length m = axisLimit (axisLimit (axisLimit cap (limits .x) length (m .x)) (limits .y) length (m .y)) (limits .z) length (m .z)
 
--- Block speed v: the largest whole number not above the feed and, for each moving axis, with v × |move| ≤ speed limit × L
+-- Block speed v: as fast as the feed and the speed limit of every moving axis allow
 unfoldable pub speedOf : Limits → Block → ℕ
 speedOf l b = eachAxis (b .feed) (l .speed) (lengthOf b) (movesOf b)
 
@@ -52,11 +52,11 @@ speedOf l b = eachAxis (b .feed) (l .speed) (lengthOf b) (movesOf b)
 abbrev pub torqueSteps : List ℕ
 torqueSteps = 100 ∷ 100 ∷ 90 ∷ 80 ∷ 70 ∷ 60 ∷ 50 ∷ 40 ∷ []
 
--- the percent at a speed: step number is (v - 1) divided by 125,000, rounded down
+-- the percent at a speed: a step is 125,000 µm/s, the first begins at 1
 unfoldable pub torquePercent : ℕ → ℕ
 torquePercent v = getD torqueSteps ((v - 1) / 125_000) 0
 
--- the largest whole number with a × |move| ≤ acceleration limit × L for each moving axis
+-- as much acceleration as the limit of every moving axis allows
 -- (of a block that moves it is below the bound given here: the law `axis-accel-largest`)
 unfoldable pub axisAccel : Limits → Block → ℕ
 axisAccel l b = eachAxis (2 * mostAccel) (l .accel) (lengthOf b) (movesOf b)
@@ -76,11 +76,11 @@ reachOf l b = reachFrom (accelOf l b) (lengthOf b)
 unfoldable pub chordFactor : Limits → (radius : ℕ) → ℕ
 chordFactor l radius = 8 * l .chord * radius
 
--- the chord rule's cap: the largest q with q × T × T ≤ 8 × E × R × 10^12
+-- the chord rule's cap: the greatest q for which q × T × T stays within 8 × E × R × 10^12
 unfoldable pub chordCap : Limits → (radius : ℕ) → ℕ
 chordCap l radius = chordFactor l radius * 1_000_000_000_000 / (l .tick * l .tick)
 
--- Block cap: v squared; if the radius is not 0, the largest q not above that with q × T × T ≤ 8 × E × R × 10^12
+-- Block cap: v squared, on a curve under the chord rule too
 -- (the law `chord-capped` says that this is the smaller of v squared and the chord rule's cap)
 unfoldable pub blockCapFrom : Limits → (radius speed : ℕ) → ℕ
 blockCapFrom l radius speed =
@@ -94,7 +94,7 @@ blockCap l b = blockCapFrom l (b .radius) (speedOf l b)
 unfoldable pub numbersOf : Limits → Block → Numbers
 numbersOf l b = record { length = lengthOf b; accel = accelOf l b; reach = reachOf l b; cap = blockCap l b }
 
--- P: the product of two lengths. S: the sum over axes of the products of the moves, in the parts in which P is counted
+-- S: the scalar product of two moves, µm². P, the product of their lengths, counts parts of a µm
 abbrev pub dotOf : Block → Block → ℤ
 dotOf a b = (a .x *ℤ b .x) +ℤ (a .y *ℤ b .y) +ℤ (a .z *ℤ b .z)
 
@@ -107,7 +107,7 @@ pub data CornerCap : Type 0 where
   none : CornerCap
   upTo : ℕ → CornerCap
 
--- none where S ≥ P, otherwise the largest q with q × 2 × (P - S) ≤ J × J × P
+-- none without a turn; else the greatest q for which q × 2 × (P - S) stays within J × J × P
 unfoldable pub cornerFrom : (jump product turn : ℕ) → CornerCap
 cornerFrom jump product zero = none
 cornerFrom jump product (suc turn) = upTo (jump * jump * product / (2 * suc turn))
@@ -121,11 +121,11 @@ abbrev pub underCorner : CornerCap → ℕ → ℕ
 underCorner none cap = cap
 underCorner (upTo q) cap = min cap q
 
--- Junction cap: the smallest of the two block caps and the corner cap
+-- Junction cap: the least of the caps of both blocks and of their corner
 unfoldable pub junctionCap : Limits → Block → Block → ℕ
 junctionCap l a b = underCorner (cornerCap l a b) (min (blockCap l a) (blockCap l b))
 
--- the peak: the largest p not above the block cap with 2 × p - entry - exit ≤ b
+-- the peak: the greatest squared speed under the block cap that the reach allows from the entry and back to the exit
 unfoldable pub peakOf : (cap reach entry exit : ℕ) → ℕ
 peakOf cap reach entry exit = min cap ((reach + entry + exit) / 2)
 
@@ -157,7 +157,7 @@ sized n entry exit =
 unfoldable pub rampable : Numbers → (entry exit : ℕ) → Bool
 rampable n entry exit = sized n entry exit && (leb entry (exit + n .reach) && leb exit (entry + n .reach))
 
--- Ramp of a block with entry and exit squared speeds
+-- the ramp of a block between two squared speeds
 unfoldable pub rampOf : Numbers → (entry exit : ℕ) → Ramp
 rampOf n entry exit =
     let peak = peakOf (n .cap) (n .reach) entry exit in

@@ -50,8 +50,7 @@ pub record Lawful (committed : ℕ) (line : List Step) (profile : List ℕ) : Ty
   pub rises : (k : ℕ) → k < length line → numberAt profile (k + 1) ≤ numberAt profile k + reachAt line k
   pub falls : (k : ℕ) → k < length line → numberAt profile k ≤ numberAt profile (k + 1) + reachAt line k
 
--- Document 01's plan, the lawful profile that is highest everywhere: no lawful profile of the same line and
--- committed squared speed has a greater number at any junction.
+-- Document 01's plan: a lawful profile that none of the same line and committed squared speed exceeds anywhere.
 pub record Highest (committed : ℕ) (line : List Step) (profile : List ℕ) : Type 0 where
   pub lawful : Lawful committed line profile
   pub above : (other : List ℕ) → Lawful committed line other → (k : ℕ) → k ≤ length line → numberAt other k ≤ numberAt profile k

@@ -110,7 +110,7 @@ mostBytes = 32_792
 abbrev pub manyIn : List ℕ → ℕ
 manyIn s = pick (ltb mostBytes (length s)) 10 0
 
--- 9 where a tape is under 24 bytes or its rest no multiple of 16, else 0
+-- 9 where a tape has no whole limits, or ends inside a record, else 0
 abbrev pub raggedIn : List ℕ → ℕ
 raggedIn s = pick (ltb (length s) limitsBytes || not (eqb ((length s - limitsBytes) % recordBytes) 0)) 9 0
 
