@@ -21,6 +21,11 @@ unfolding placesFrom
 places-length zero m at = refl
 places-length (suc n) m at = ap suc (places-length n m (at + placeSize))
 
+-- 64 in the view,
+pub view-sized : (m : List ℕ) → length (viewOf m .places) ≡ mostHeld
+unfolding viewOf
+view-sized m = places-length mostHeld m headSize
+
 next-place : (at i : ℕ) → at + placeSize + placeSize * i ≡ at + placeSize * suc i
 next-place at i = omega arith
 
