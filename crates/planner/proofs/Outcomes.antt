@@ -20,7 +20,7 @@ use Rattle.line.specs.Ring.{Ring, putLast, addedIn, givenIn, takenFrom, takenAn
 use Rattle.line.proofs.Demand.{holds-fresh, holds-call}
 use Rattle.line.proofs.Shows.{holds-told, holds-shown, holds-highest}
 use Rattle.planner.specs.View.{memorySize, viewOf}
-use Rattle.planner.proofs.View.{view-places}
+use Rattle.planner.proofs.View.{view-sized}
 use Rattle.planner.specs.Calls.{Memory, GaveFirst, Called, Freshened, freshIn, Showed, shownList, Told}
 
 -- A call whose answer and memory are the ring's answers and leaves what the line says.
@@ -49,7 +49,7 @@ module _ (m : List ℕ) (sized : length m ≡ memorySize) (l : Limits) where
         sized = s;
         answer = e;
         after = v ∙ ap (λ (k : ℕ). freshIn k (viewOf m) l) e;
-        line = λ z. rw v (holds-fresh l (viewOf m .places) (sym e) (view-places m));
+        line = λ z. rw v (holds-fresh l (viewOf m .places) (sym e) (view-sized m));
       }
 
 -- An add that is refused by a number changes nothing.

@@ -21,9 +21,10 @@ unfolding placesFrom
 places-length zero m at = refl
 places-length (suc n) m at = ap suc (places-length n m (at + placeSize))
 
-pub view-places : (m : List ℕ) → length (viewOf m .places) ≡ mostHeld
+-- 64 in the view,
+pub view-sized : (m : List ℕ) → length (viewOf m .places) ≡ mostHeld
 unfolding viewOf
-view-places m = places-length mostHeld m headSize
+view-sized m = places-length mostHeld m headSize
 
 next-place : (at i : ℕ) → at + placeSize + placeSize * i ≡ at + placeSize * suc i
 next-place at i = omega arith

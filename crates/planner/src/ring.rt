@@ -68,14 +68,16 @@ fn walk_back(memory: &mut [u64], count: u64)
 {
     let first = memory[FIRST];
     let mut k = count;
+    let mut after = place(first, k);
     while 0 < k {
-        let limit = brake_at(memory, place(first, k));
+        let limit = brake_at(memory, after);
         k -= 1;
         let at = place(first, k);
         if memory[at + LIMIT] == limit {
             return;
         }
         memory[at + LIMIT] = limit;
+        after = at;
     }
 }
 

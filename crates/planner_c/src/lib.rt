@@ -19,31 +19,13 @@ use machine::Block;
 use machine::Checked;
 use machine::Limits;
 use machine::Refusal;
+use machine::check::refusal_number;
 use planner::NUMBERS;
 use planner::add;
 use planner::fresh;
 use planner::shown;
 use planner::take;
 use planner::told;
-
-// The number on the display of a refusal.
-fn refusal_number(why: Refusal) -> u64
-    ensures { λ r. ⌜ r ≡ refusalNumber why ⌝ }
-{
-    match why {
-        Refusal::Limits => 1,
-        Refusal::Still => 2,
-        Refusal::Long => 3,
-        Refusal::Feed => 4,
-        Refusal::Radius => 5,
-        Refusal::Mark => 6,
-        Refusal::Full => 7,
-        Refusal::Empty => 8,
-        Refusal::Ragged => 9,
-        Refusal::Many => 10,
-        Refusal::List => 11,
-    }
-}
 
 fn checked_number(c: Checked) -> u64
     ensures { λ r. ⌜ r ≡ checkedNumber c ⌝ }

@@ -7,32 +7,36 @@ use lib.ListN.{length, length-set}
 use Rattle.line.specs.Ring.{slot, walkBack}
 use Rattle.planner.specs.View.{memorySize, baseOf, viewOf}
 use Rattle.planner.proofs.Steps.{begins, walk-ends, walk-goes-on, walk-first}
-use Rattle.planner.proofs.ring.walk_back.Statement.{statement}
 use Rattle.planner.proofs.ring.walk_back.Tie as tie
+use Rattle.planner.proofs.ring.walk_back.Statement.{statement}
 
 abbrev Inv-loop : tie.InvT-loop
-Inv-loop memory₀ count first k₀ memory k = (length memory ≡ memorySize) × (viewOf memory .first ≡ first) × (k ≤ count) × (walkBack k (viewOf memory) ≡ walkBack count (viewOf memory₀))
+Inv-loop memory₀ count first k₀ after₀ memory k after =
+    (length memory ≡ memorySize)
+    × (after ≤ 768)
+    × (viewOf memory .first ≡ first)
+    × (after ≡ baseOf (slot (viewOf memory) k))
+    × (k ≤ count)
+    × (walkBack k (viewOf memory) ≡ walkBack count (viewOf memory₀))
 
 abbrev μ-loop : tie.MeasureT-loop
-μ-loop memory₀ count first k₀ memory k = k
+μ-loop memory₀ count first k₀ after₀ memory k after = k
 
-after-is : (c : tie.After-place2 Inv-loop μ-loop) →
-    c .before .before .place .result ≡ baseOf (slot (viewOf (c .before .before .before .before .before .loop .memory)) (c .before .before .before .before .before .loop .k))
-after-is c = begins _ _ _ _ (c .before .before .before .before .before .loop .inv .1) (c .before .before .place .ensures .0)
+abbrev head : tie.After-place2 Inv-loop μ-loop → tie.At-loop Inv-loop μ-loop
+head c = c .before .before .before .before
 
-at-is : (c : tie.After-place2 Inv-loop μ-loop) →
-    c .place2 .result ≡ baseOf (slot (viewOf (c .before .before .before .before .before .loop .memory)) (c .before .before .before .before .before .loop .k - 1))
-at-is c = begins _ _ _ _ (c .before .before .before .before .before .loop .inv .1) (c .place2 .ensures .0)
+at-is : (c : tie.After-place2 Inv-loop μ-loop) → c .place2 .result ≡ baseOf (slot (viewOf (head c .loop .memory)) (head c .loop .k - 1))
+at-is c = begins _ _ _ _ (head c .loop .inv .2) (c .place2 .ensures .0)
 
 slice-read-first : tie.Need-slice-read-first Inv-loop μ-loop
 slice-read-first c = search needs
 
-loop-holds : tie.Need-loop-holds Inv-loop μ-loop
-unfolding viewOf
-loop-holds c = (c .before .before .pre, refl, omega arith, refl)
-
 place-requires : tie.Need-place-requires Inv-loop μ-loop
 place-requires c κs = search needs
+
+loop-holds : tie.Need-loop-holds Inv-loop μ-loop
+unfolding viewOf
+loop-holds c = (c .before .before .before .pre, c .place .ensures .1, refl, c .place .ensures .0, omega arith, refl)
 
 brake-at-requires : tie.Need-brake-at-requires Inv-loop μ-loop
 brake-at-requires c κs = search needs
@@ -57,13 +61,12 @@ same-length c = search needs
 
 returns : tie.Need-returns Inv-loop μ-loop
 returns c =
-    let w = c .before .before .before .before .before .before in
-    let n = w .before .loop .k in
+    let d = c .before .before in
+    let w = head d in
+    let n = w .loop .k in
     record {
-      sized = w .before .loop .inv .0;
-      view =
-          walk-ends _ n (n - 1) _ _ _ (omega arith) (after-is (c .before .before)) (at-is (c .before .before)) (c .before .before .before .brake-at .ensures) (c .if1 .taken)
-          ∙ w .before .loop .inv .3;
+      sized = w .loop .inv .0;
+      view = walk-ends _ n (n - 1) _ _ _ (omega arith) (w .loop .inv .3) (at-is d) (d .before .brake-at .ensures) (c .if1 .taken) ∙ w .loop .inv .5;
     }
 
 add-memory : tie.Need-add-memory Inv-loop μ-loop
@@ -80,15 +83,18 @@ loop-less c = search needs
 
 loop-again : tie.Need-loop-again Inv-loop μ-loop
 loop-again c =
-    let w = c .before .before .before .before .before .before in
-    let n = w .before .loop .k in
-    let inv = w .before .loop .inv in
     let d = c .before .before in
-    let e = d .before .brake-at .ensures in (
+    let w = head d in
+    let n = w .loop .k in
+    let inv = w .loop .inv in
+    let e = d .before .brake-at .ensures in
+    let first = walk-first _ n (n - 1) _ _ _ (omega arith) (inv .3) (at-is d) e (inv .0) ∙ inv .2 in (
       simp length-set (inv .0),
-      walk-first _ n (n - 1) _ _ _ (omega arith) (after-is d) (at-is d) e (inv .0) ∙ inv .1,
+      d .place2 .ensures .1,
+      first,
+      begins _ _ _ _ first (d .place2 .ensures .0),
       omega arith,
-      walk-goes-on _ n (n - 1) _ _ _ (omega arith) (after-is d) (at-is d) e (inv .0) (c .if1 .left) ∙ inv .3,
+      walk-goes-on _ n (n - 1) _ _ _ (omega arith) (inv .3) (at-is d) e (inv .0) (c .if1 .left) ∙ inv .5,
     )
 
 same-length-2 : tie.Need-same-length-2 Inv-loop μ-loop
@@ -98,8 +104,8 @@ returns-2 : tie.Need-returns-2 Inv-loop μ-loop
 unfolding walkBack
 returns-2 c =
     let z : c .before .loop .k ≡ 0 = omega arith in
-    record { sized = c .before .loop .inv .0; view = rw z at (c .before .loop .inv .3) }
+    record { sized = c .before .loop .inv .0; view = rw z at (c .before .loop .inv .5) }
 
 pub walk-back-spec : {M : Type 1} → statement M
 walk-back-spec =
-    tie.close (tie.spec Inv-loop μ-loop slice-read-first loop-holds place-requires brake-at-requires sub-k place-requires-2 add-if1 mul-if1 slice-read-if1 same-length returns add-memory mul-memory slice-write-memory loop-less loop-again same-length-2 returns-2)
+    tie.close (tie.spec Inv-loop μ-loop slice-read-first place-requires loop-holds brake-at-requires sub-k place-requires-2 add-if1 mul-if1 slice-read-if1 same-length returns add-memory mul-memory slice-write-memory loop-less loop-again same-length-2 returns-2)
