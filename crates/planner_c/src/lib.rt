@@ -18,7 +18,6 @@ use machine::Axes;
 use machine::Block;
 use machine::Checked;
 use machine::Limits;
-use machine::Refusal;
 use machine::check::refusal_number;
 use planner::NUMBERS;
 use planner::add;
