@@ -1,0 +1,4 @@
+-- What a trace says, and what running it promises.
+pub mod Trace
+pub mod Rows
+pub mod Replays
