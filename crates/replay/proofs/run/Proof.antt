@@ -1,11 +1,13 @@
--- `replay::run` meets its contract: before call k those before it have been run, each into its row. From `ran-none` and `ran-more`. Assumes nothing.
-use mathlib.Core.Path.{_≡_}
-use Prim.Native.Nat.{_-_, _*_, _≤_}
+-- `replay::run` meets its contract: before call k those before it have been run, each into its row. From `ran-none` and `ran-stored`. Assumes nothing.
+use mathlib.Core.Path.{_≡_, _∙_}
+use Prim.Native.Nat.{ℕ, _+_, _-_, _*_, _≤_}
+use native.Mathlib.Omega.{arith}
+use borrow.Rule.Slice.PartMut.{mid-len}
 use lib.ListN.{length, take}
 use Rattle.replay.specs.Trace.{callsFrom}
 use Rattle.replay.specs.Rows.{rowSize}
 use Rattle.replay.specs.Replays.{Ran}
-use Rattle.replay.proofs.Runs.{ran-none, ran-more}
+use Rattle.replay.proofs.Runs.{ran-none, ran-stored, ran-all, part-call}
 use borrow.Author.Needs.{needs}
 use Rattle.replay.proofs.run.Statement.{statement}
 use Rattle.replay.proofs.run.Tie as tie
@@ -23,7 +25,7 @@ sub-n : tie.Need-sub-n Inv-loop μ-loop
 sub-n c = search needs
 
 loop-holds : tie.Need-loop-holds Inv-loop μ-loop
-loop-holds c = (search needs, search needs, ran-none _ _ _)
+loop-holds c = let s = c .before .before in (search needs, search needs, ran-none (s .args .trace .now) (s .args .memory .now) (s .args .answers .now))
 
 mul-from : tie.Need-mul-from Inv-loop μ-loop
 mul-from c = search needs
@@ -71,13 +73,24 @@ loop-less : tie.Need-loop-less Inv-loop μ-loop
 loop-less c = search needs
 
 loop-again : tie.Need-loop-again Inv-loop μ-loop
-loop-again c = ?
+loop-again c =
+    let s = c .before .before in
+    let l = s .before .before .before .before .before in
+    let trace = l .before .before .before .args .trace .now in
+    let k = l .loop .k in
+    let long : length (s .step .last .1 .1 .0) ≡ rowSize = s .step .kept .1 .1 .0 ∙ mid-len (rowSize * k) (rowSize * k + rowSize) (l .loop .answers) (search needs) ∙ back k in
+    (search needs, search needs, ran-stored trace (l .loop .answers) (s .step .last .1 .1 .0) k (rowSize * k + rowSize - rowSize * k) (search needs) long (l .loop .inv .2) (part-call trace k (s .step .ensures)))
+  where
+    back : (k : ℕ) → rowSize * k + rowSize - rowSize * k ≡ rowSize
+    back k = omega arith
 
 same-length : tie.Need-same-length Inv-loop μ-loop
 same-length c = search needs
 
 returns : tie.Need-returns Inv-loop μ-loop
-returns c = ?
+returns c =
+    let l = c .before in
+    ran-all (l .before .before .before .args .trace .now) (l .loop .answers) (l .loop .k) (search needs) (l .loop .inv .1) (l .loop .inv .2)
 
 pub run-spec : {M : Type 1} → statement M
 run-spec =
