@@ -1,4 +1,4 @@
--- A run of calls, and one call more. From the line's definitions and the laws of rows. Assumes nothing.
+-- A run of calls, one call more, and demand 3 of all. From the line's definitions, the laws of rows and the planner's promises. Assumes nothing.
 use mathlib.Core.List.{List, [], _∷_, _++_, append-assoc}
 use mathlib.Core.Path.{_≡_, refl, sym, ap, subst, _∙_}
 use Prim.Native.Nat.{ℕ, zero, suc, _+_, _-_, _*_, _≤_}
@@ -21,7 +21,8 @@ use Rattle.planner.specs.Calls.{Told, Showed}
 use Rattle.planner.specs.View.{viewOf}
 use Rattle.replay.specs.Trace.{wordOf, blockOf, callBy, callOf, callBytes, callStart, callAt, callsIn, callsFrom, traceCalls}
 use Rattle.replay.specs.Rows.{rowsOf, rowSize}
-use Rattle.replay.specs.Replays.{planSize, Stepped, Ran, Demanded}
+use Rattle.replay.specs.Replays.{planSize, Demanded}
+use Rattle.replay.specs.Runs.{Stepped, Ran}
 use Rattle.replay.proofs.Rows.{rows-more}
 
 -- The line, and the answers, after one call more.
@@ -89,7 +90,7 @@ ran-stored trace rows row k j {m} {m″} h e r s =
     let front = take (rowSize * k) rows in
     let long : length (front ++ row) ≡ rowSize * (k + 1) = omega (arith, length-append front row, length-take-le (rowSize * k) rows h) in
     let is : take (rowSize * (k + 1)) (putMid (rowSize * k) j rows row) ≡ front ++ row =
-        ap (take (rowSize * (k + 1))) (sym (append-assoc front row (postOf (rowSize * k) j rows))) ∙ take-at (front ++ row) (postOf (rowSize * k) j rows) (rowSize * (k + 1)) long in
+    ap (take (rowSize * (k + 1))) (sym (append-assoc front row (postOf (rowSize * k) j rows))) ∙ take-at (front ++ row) (postOf (rowSize * k) j rows) (rowSize * (k + 1)) long in
     subst (λ (l : List ℕ). Ran (callsFrom trace 0 (k + 1)) m m″ l) (sym is) (ran-more trace k r s)
 
 -- All calls of a trace, where the rows fill the list.

@@ -1,24 +1,22 @@
--- What running a trace promises: demand 3 of its list of calls. Nothing here names what a planner keeps, but for one call
--- and a run of calls on a planner's memory.
+-- What running a trace promises: demand 3 of its list of calls. Nothing here names what a planner keeps.
 use mathlib.Core.Path.{_≡_}
 use mathlib.Core.List.{List}
-use Prim.Native.Nat.{ℕ, _+_, _*_, _<_}
 use mathlib.Core.Bool.{_&&_}
+use Prim.Native.Nat.{ℕ, _+_, _*_, _<_}
 use lib.Dec.{eqb}
 use lib.ListN.{length, take, drop}
 use Rattle.machine.specs.Checks.{pick, refusalNumber}
 use Rattle.machine.specs.declared.Limits.{Limits}
-use Rattle.line.specs.Blocks.{Call, Line, freshLine, lineAnswer, lineAfter, lineAnswers, lineAfterAll, mostHeld}
-use Rattle.line.specs.Holds.{Holds, Demand3}
+use Rattle.line.specs.Blocks.{mostHeld, Call, freshLine, lineAnswers}
+use Rattle.line.specs.Holds.{Demand3}
 use Rattle.tape.specs.Tape.{limitsAt}
 use Rattle.tape.specs.Display.{_then_}
-use Rattle.planner.specs.View.{memorySize, viewOf}
-use Rattle.replay.specs.Trace.{traceCalls, callsIn, traceRefusal}
-use Rattle.replay.specs.Rows.{rowOf, rowsOf, rowSize}
+use Rattle.replay.specs.Trace.{callsIn, traceCalls, traceRefusal}
+use Rattle.replay.specs.Rows.{rowSize, rowsOf}
 use Rattle.replay.specs.declared.Replayed.{Replayed}
 use Rattle.replay.specs.declared.Replayed.the-variants.{Done, Refused}
 
--- numbers that a lent list for the plan has: as many as junctions of the longest line
+-- numbers of the list that is lent for the plan: as many as the longest line has junctions
 abbrev pub planSize : ℕ
 planSize = mostHeld + 1
 
@@ -39,8 +37,8 @@ abbrev pub toldIn : Replayed → ℕ
 toldIn (Done told) = told
 toldIn (Refused why) = 0
 
--- Calls that were run from a fresh planner with limits l: the lists answers′ and plan′ (which was plan) hold the rows of the answers
--- and the plan shown, and these, with the number told, meet demand 3.
+-- Calls that were run from a fresh planner with limits l: answers′ are the rows of what the line answers; the number told and the
+-- first numbers of plan′ meet demand 3; the others are as they were in plan.
 pub record Demanded (l : Limits) (calls : List Call) (told : ℕ) (answers′ plan plan′ : List ℕ) : Type 0 where
   pub rows : answers′ ≡ rowsOf (lineAnswers (freshLine l) calls)
   pub demand : Demand3 l calls (lineAnswers (freshLine l) calls) told (take (told + 1) plan′)
@@ -56,12 +54,3 @@ pub record Replays (trace answers plan : List ℕ) (r : Replayed) (answers′ pl
   pub number : replayedNumber r ≡ replayRefusal trace (length answers) (length plan)
   pub run : replayedNumber r ≡ 0 → Demanded (limitsAt trace) (traceCalls trace) (toldIn r) answers′ plan plan′
   pub refused : 0 < replayedNumber r → Unchanged answers plan answers′ plan′
-
--- One call on a planner's memory, and its row.
-pub record Stepped (call : Call) (memory memory′ row′ : List ℕ) : Type 0 where
-  pub sized : length memory′ ≡ memorySize
-  pub line : (line : Line) → Holds (viewOf memory) line → (row′ ≡ rowOf (lineAnswer line call)) × Holds (viewOf memory′) (lineAfter line call)
-
--- A list of calls on a planner's memory, and their rows.
-pub record Ran (calls : List Call) (memory memory′ rows′ : List ℕ) : Type 0 where
-  pub line : (line : Line) → Holds (viewOf memory) line → (rows′ ≡ rowsOf (lineAnswers line calls)) × Holds (viewOf memory′) (lineAfterAll line calls)

@@ -4,7 +4,7 @@ ghost use lib.ListN.{length};
 ghost use Rattle.line.specs.Blocks as blocks;
 ghost use Rattle.replay.specs.Trace.{blockOf, callBytes, callOf};
 ghost use Rattle.replay.specs.Rows.{noneGiven, rowFrom, rowSize};
-ghost use Rattle.replay.specs.Replays.{Stepped};
+ghost use Rattle.replay.specs.Runs.{Stepped};
 use line::AddAnswer;
 use line::Given;
 use line::TakeAnswer;

@@ -9,9 +9,6 @@ use Rattle.replay.proofs.Heads.{head-short, head-ragged, head-limits}
 use borrow.Author.Needs.{needs}
 use Rattle.replay.proofs.read_head.Statement.{statement}
 use Rattle.replay.proofs.read_head.Tie as tie
-use Rattle.replay.proofs.read_head.Reads as reads
-use Rattle.replay.proofs.read_head.Lts as lts
-use Rattle.tape.proofs.limits.read_limits.Reads as read-limits-reads
 
 returns : tie.Need-returns
 returns c = refuses-by _ why.Ragged (head-short _ (c .if1 .taken))

@@ -9,10 +9,6 @@ use Rattle.replay.proofs.Heads.{head-passed, head-given, head-refused, 
 use borrow.Author.Needs.{needs}
 use Rattle.replay.proofs.replay.Statement.{statement}
 use Rattle.replay.proofs.replay.Tie as tie
-use Rattle.replay.proofs.replay.Reads as reads
-use Rattle.replay.proofs.replay.Lts as lts
-use Rattle.replay.proofs.read_head.Reads as read-head-reads
-use Rattle.replay.proofs.run_all.Reads as run-all-reads
 
 read-head-requires : tie.Need-read-head-requires
 read-head-requires c κs = search needs

@@ -6,14 +6,11 @@ use borrow.Rule.Slice.PartMut.{mid-len}
 use lib.ListN.{length, take}
 use Rattle.replay.specs.Trace.{callsFrom}
 use Rattle.replay.specs.Rows.{rowSize}
-use Rattle.replay.specs.Replays.{Ran}
+use Rattle.replay.specs.Runs.{Ran}
 use Rattle.replay.proofs.Runs.{ran-none, ran-stored, ran-all, part-call}
 use borrow.Author.Needs.{needs}
 use Rattle.replay.proofs.run.Statement.{statement}
 use Rattle.replay.proofs.run.Tie as tie
-use Rattle.replay.proofs.run.Reads as reads
-use Rattle.replay.proofs.run.Lts as lts
-use Rattle.replay.proofs.calls.step.Reads as step-reads
 
 abbrev Inv-loop : tie.InvT-loop
 Inv-loop trace memory₀ answers₀ n k₀ memory answers k = (k ≤ n) × (length answers ≡ rowSize * n) × Ran (callsFrom trace 0 k) memory₀ memory (take (rowSize * k) answers)

@@ -12,12 +12,6 @@ use Rattle.replay.proofs.Runs.{told-few, held, demanded}
 use borrow.Author.Needs.{needs}
 use Rattle.replay.proofs.run_all.Statement.{statement}
 use Rattle.replay.proofs.run_all.Tie as tie
-use Rattle.replay.proofs.run_all.Reads as reads
-use Rattle.replay.proofs.run_all.Lts as lts
-use Rattle.planner.proofs.fresh.Reads as fresh-reads
-use Rattle.planner.proofs.shown.Reads as shown-reads
-use Rattle.planner.proofs.told.Reads as told-reads
-use Rattle.replay.proofs.run.Reads as run-reads
 
 fresh-requires : tie.Need-fresh-requires
 fresh-requires c κs = search needs

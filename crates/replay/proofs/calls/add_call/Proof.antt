@@ -7,12 +7,6 @@ use Rattle.replay.proofs.Rows.{stepped}
 use borrow.Author.Needs.{needs}
 use Rattle.replay.proofs.calls.add_call.Statement.{statement}
 use Rattle.replay.proofs.calls.add_call.Tie as tie
-use Rattle.replay.proofs.calls.add_call.Reads as reads
-use Rattle.replay.proofs.calls.add_call.Lts as lts
-use Rattle.machine.proofs.check.refusal_number.Reads as refusal-number-reads
-use Rattle.planner.proofs.add.Reads as add-reads
-use Rattle.replay.proofs.calls.none_given.Reads as none-given-reads
-use Rattle.replay.proofs.calls.write_row.Reads as write-row-reads
 
 add-requires : tie.Need-add-requires
 add-requires c κs = search needs

@@ -7,10 +7,6 @@ use Rattle.replay.specs.Trace.{blockOf, wordBits}
 use borrow.Author.Needs.{needs}
 use Rattle.replay.proofs.calls.decode_block.Statement.{statement}
 use Rattle.replay.proofs.calls.decode_block.Tie as tie
-use Rattle.replay.proofs.calls.decode_block.Reads as reads
-use Rattle.replay.proofs.calls.decode_block.Lts as lts
-use Rattle.fields.proofs.read_field.Reads as read-field-reads
-use Rattle.fields.proofs.to_signed.Reads as to-signed-reads
 
 read-field-requires : tie.Need-read-field-requires
 read-field-requires c κs = search needs

@@ -4,12 +4,6 @@ use Rattle.replay.proofs.Runs.{call-take, call-add}
 use borrow.Author.Needs.{needs}
 use Rattle.replay.proofs.calls.step.Statement.{statement}
 use Rattle.replay.proofs.calls.step.Tie as tie
-use Rattle.replay.proofs.calls.step.Reads as reads
-use Rattle.replay.proofs.calls.step.Lts as lts
-use Rattle.fields.proofs.read_field.Reads as read-field-reads
-use Rattle.replay.proofs.calls.add_call.Reads as add-call-reads
-use Rattle.replay.proofs.calls.decode_block.Reads as decode-block-reads
-use Rattle.replay.proofs.calls.take_call.Reads as take-call-reads
 
 read-field-requires : tie.Need-read-field-requires
 read-field-requires c κs = search needs

@@ -7,12 +7,6 @@ use Rattle.replay.proofs.Rows.{stepped}
 use borrow.Author.Needs.{needs}
 use Rattle.replay.proofs.calls.take_call.Statement.{statement}
 use Rattle.replay.proofs.calls.take_call.Tie as tie
-use Rattle.replay.proofs.calls.take_call.Reads as reads
-use Rattle.replay.proofs.calls.take_call.Lts as lts
-use Rattle.machine.proofs.check.refusal_number.Reads as refusal-number-reads
-use Rattle.planner.proofs.take.Reads as take-reads
-use Rattle.replay.proofs.calls.none_given.Reads as none-given-reads
-use Rattle.replay.proofs.calls.write_row.Reads as write-row-reads
 
 take-requires : tie.Need-take-requires
 take-requires c κs = search needs

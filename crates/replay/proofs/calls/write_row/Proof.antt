@@ -12,9 +12,6 @@ use Rattle.replay.proofs.Rows.{sets-all}
 use borrow.Author.Needs.{needs}
 use Rattle.replay.proofs.calls.write_row.Statement.{statement}
 use Rattle.replay.proofs.calls.write_row.Tie as tie
-use Rattle.replay.proofs.calls.write_row.Reads as reads
-use Rattle.replay.proofs.calls.write_row.Lts as lts
-use Rattle.fields.proofs.to_bits.Reads as to-bits-reads
 
 slice-write-row : tie.Need-slice-write-row
 slice-write-row c = search needs
