@@ -1,0 +1,95 @@
+-- The numbers that a trace's checks come to, by what the code tests. From the definitions. Assumes nothing.
+use mathlib.Core.Path.{_≡_, refl, sym, ap, _∙_}
+use mathlib.Core.Bool.{Bool, true, false, _||_, _&&_, not}
+use mathlib.Core.List.{List}
+use Prim.Native.Nat.{ℕ, _-_, _*_, _%_, _≤_, _<_}
+use native.Mathlib.Omega.{arith}
+use borrow.Author.Tests.{lt-ltb, le-ltb, ltb-false, eq-eqb, ne-eqb}
+use lib.Dec.{lit<, ltb, eqb}
+use lib.ListN.{length}
+use Rattle.machine.specs.Checks.{pick, refusalNumber, limitsRefusal}
+use Rattle.machine.specs.declared.Limits.{Limits}
+use Rattle.machine.specs.declared.Refusal.{Refusal}
+use Rattle.machine.specs.declared.Refusal.the-variants as why
+use Rattle.machine.proofs.AnswerLaws.{refusal-above}
+use Rattle.tape.specs.Tape.{limitsBytes, limitsAt}
+use Rattle.tape.specs.Display.{byNumber, given, refused, limitsFault}
+use Rattle.tape.proofs.Answers.{then-first, then-second, then-zero, not-picked, given-is, refused-is}
+use Rattle.tape.proofs.Checks.{limits-faultless}
+use Rattle.replay.specs.Trace.{callBytes, callsIn, traceCalls, raggedTrace, traceRefusal}
+use Rattle.replay.specs.Rows.{rowSize}
+use Rattle.replay.specs.Replays.{planSize, listsRefusal, replayRefusal, Demanded, Replays}
+use Rattle.replay.specs.declared.Replayed.the-variants.{Done, Refused}
+
+module _ (trace : List ℕ) where
+  pub head-short : length trace < limitsBytes → traceRefusal trace ≡ 9
+  unfolding traceRefusal
+  head-short h = rw (lt-ltb (length trace) limitsBytes h)
+
+  pub head-ragged : limitsBytes ≤ length trace → ((length trace - limitsBytes) % callBytes ≡ 0 → ⊥) → traceRefusal trace ≡ 9
+  unfolding traceRefusal
+  head-ragged l h = rw (le-ltb (length trace) limitsBytes l, ne-eqb ((length trace - limitsBytes) % callBytes) 0 h)
+
+  pub head-limits : limitsBytes ≤ length trace → (length trace - limitsBytes) % callBytes ≡ 0 → traceRefusal trace ≡ limitsFault trace
+  unfolding traceRefusal
+  head-limits l e = rw (le-ltb (length trace) limitsBytes l, eq-eqb ((length trace - limitsBytes) % callBytes) 0 e)
+
+  -- A trace that passes has its limits, and they pass 1.
+  pub head-passed : traceRefusal trace ≡ 0 → (limitsBytes ≤ length trace) × (limitsFault trace ≡ 0)
+  unfolding traceRefusal
+  head-passed e =
+      let ragged = then-zero (raggedTrace trace) e in
+      (ltb-false (length trace) limitsBytes (neither (ltb (length trace) limitsBytes) _ (not-picked _ (lit< tt) (ragged .0))), ragged .1)
+    where
+      neither : (a b : Bool) → a || b ≡ false → a ≡ false
+      neither true b e = let z : _≡_ {A = ℕ} 0 1 = cc in absurd (omega arith)
+      neither false b e = refl
+
+  -- What reading the head gives, or refuses.
+  pub head-given : {l : Limits} → byNumber (traceRefusal trace) (given (limitsAt trace)) (refused (traceRefusal trace)) ≡ given l
+      → (traceRefusal trace ≡ 0) × ((limitsAt trace ≡ l) × (limitsRefusal l ≡ 0))
+  head-given e =
+      let r = given-is (limitsAt trace) (traceRefusal trace) (traceRefusal trace) (sym e) in
+      (r .0, (sym (r .1), ap limitsRefusal (r .1) ∙ limits-faultless trace (head-passed (r .0) .1) .1))
+
+-- What a trace is answered.
+module _ (trace answers plan : List ℕ) where
+  -- refused by a number
+  refused-by : (r : Refusal) → replayRefusal trace (length answers) (length plan) ≡ refusalNumber r → Replays trace answers plan (Refused r) answers plan
+  refused-by r e =
+      let above = refusal-above r in
+      record {
+        number = sym e;
+        run = λ z. absurd (omega arith);
+        refused = λ h. record { answers-same = refl; plan-same = refl };
+      }
+
+  -- by its head
+  pub head-refused : (r : Refusal) → byNumber (traceRefusal trace) (given (limitsAt trace)) (refused (traceRefusal trace)) ≡ refused (refusalNumber r)
+      → Replays trace answers plan (Refused r) answers plan
+  unfolding replayRefusal
+  head-refused r e =
+      let s = refused-is (limitsAt trace) (traceRefusal trace) (traceRefusal trace) (sym e) in
+      refused-by r (then-first (listsRefusal trace (length answers) (length plan)) (s .0) ∙ sym (s .1))
+
+  -- by the length of a list
+  pub answers-refused : traceRefusal trace ≡ 0 → (length answers ≡ rowSize * callsIn trace → ⊥) → Replays trace answers plan (Refused why.List) answers plan
+  unfolding replayRefusal
+  answers-refused e h = refused-by why.List (then-second e (ap (λ (t : Bool). pick (t && eqb (length plan) planSize) 0 11) (ne-eqb (length answers) (rowSize * callsIn trace) h)))
+
+  pub plan-refused : traceRefusal trace ≡ 0 → length answers ≡ rowSize * callsIn trace → (length plan ≡ planSize → ⊥) → Replays trace answers plan (Refused why.List) answers plan
+  unfolding replayRefusal
+  plan-refused e a h =
+      refused-by why.List
+      (then-second e (λ i. pick (eq-eqb (length answers) (rowSize * callsIn trace) a i && ne-eqb (length plan) planSize h i) 0 11))
+
+  -- run
+  pub trace-run : {answers′ plan′ : List ℕ} (told : ℕ) → traceRefusal trace ≡ 0 → length answers ≡ rowSize * callsIn trace → length plan ≡ planSize
+      → Demanded (limitsAt trace) (traceCalls trace) told answers′ plan plan′ → Replays trace answers plan (Done told) answers′ plan′
+  unfolding replayRefusal
+  trace-run told e a p d =
+      record {
+        number = sym (then-second e (λ i. pick (eq-eqb (length answers) (rowSize * callsIn trace) a i && eq-eqb (length plan) planSize p i) 0 11));
+        run = λ z. d;
+        refused = λ h. absurd (omega arith);
+      }

@@ -1,0 +1,41 @@
+-- Rows: stored whole, how many numbers, and of one answer more. From the definitions. Assumes nothing.
+use mathlib.Core.List.{List, [], _∷_, _++_, append-nil, append-assoc}
+use mathlib.Core.Path.{_≡_, refl, sym, ap, _∙_}
+use Prim.Native.Nat.{ℕ, _+_, _*_}
+use native.Mathlib.Omega.{arith}
+use lib.ListN.{length, length-append}
+use lib.Seq.{sets, sets-eq, drop-length}
+use Rattle.line.specs.Answers.{Answer, accepted, gave, refused}
+use Rattle.line.specs.Blocks.{Call}
+use Rattle.planner.specs.Calls.{Called}
+use Rattle.replay.specs.Rows.{rowSize, rowOf, rowsOf}
+use Rattle.replay.specs.Runs.{Stepped}
+
+-- A list stored from its begin to its end is what was stored.
+pub sets-all : {A : Type 0} (vs l : List A) → length l ≡ length vs → sets l 0 vs ≡ vs
+sets-all vs l e =
+    let all : 0 + length vs ≡ length l = omega arith in
+    sets-eq vs l 0 (omega arith) ∙ rw (all, drop-length l) (append-nil vs)
+
+-- A row has 15 numbers, and so have the rows of each answer.
+row-size : (a : Answer) → length (rowOf a) ≡ rowSize
+unfolding rowOf
+row-size accepted = refl
+row-size (gave g) = refl
+row-size (refused n) = refl
+
+pub rows-size : (answers : List Answer) → length (rowsOf answers) ≡ rowSize * length answers
+unfolding rowsOf
+rows-size [] = refl
+rows-size (a ∷ answers) = omega (arith, length-append (rowOf a) (rowsOf answers), row-size a, rows-size answers)
+
+-- The rows of one answer more.
+pub rows-more : (answers : List Answer) (a : Answer) → rowsOf (answers ++ a ∷ []) ≡ rowsOf answers ++ rowOf a
+unfolding rowsOf
+rows-more [] a = append-nil (rowOf a)
+rows-more (b ∷ answers) a = ap (λ (l : List ℕ). rowOf b ++ l) (rows-more answers a) ∙ sym (append-assoc (rowOf b) (rowsOf answers) (rowOf a))
+
+-- A planner's promise of a call, with its answer as a row.
+pub stepped : {call : Call} {m m′ row : List ℕ} {said : Answer} → Called m call said m′ → row ≡ rowOf said → Stepped call m m′ row
+stepped c e =
+    record { line = λ line h. let s = c .line line h in (e ∙ ap rowOf (s .0), s .1) }

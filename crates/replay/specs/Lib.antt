@@ -1,0 +1,5 @@
+-- What a trace says, and what running it promises.
+pub mod Trace
+pub mod Rows
+pub mod Runs
+pub mod Replays

@@ -1,0 +1,56 @@
+-- What running a trace promises: demand 3 of its list of calls. Nothing here names what a planner keeps.
+use mathlib.Core.Path.{_≡_}
+use mathlib.Core.List.{List}
+use mathlib.Core.Bool.{_&&_}
+use Prim.Native.Nat.{ℕ, _+_, _*_, _<_}
+use lib.Dec.{eqb}
+use lib.ListN.{length, take, drop}
+use Rattle.machine.specs.Checks.{pick, refusalNumber}
+use Rattle.machine.specs.declared.Limits.{Limits}
+use Rattle.line.specs.Blocks.{mostHeld, Call, freshLine, lineAnswers}
+use Rattle.line.specs.Holds.{Demand3}
+use Rattle.tape.specs.Tape.{limitsAt}
+use Rattle.tape.specs.Display.{_then_}
+use Rattle.replay.specs.Trace.{callsIn, traceCalls, traceRefusal}
+use Rattle.replay.specs.Rows.{rowSize, rowsOf}
+use Rattle.replay.specs.declared.Replayed.{Replayed}
+use Rattle.replay.specs.declared.Replayed.the-variants.{Done, Refused}
+
+-- numbers of the list that is lent for the plan: as many as the longest line has junctions
+abbrev pub planSize : ℕ
+planSize = mostHeld + 1
+
+-- 11 where a lent list has not the length that the trace wants, else 0
+abbrev pub listsRefusal : List ℕ → (answers plan : ℕ) → ℕ
+listsRefusal trace answers plan = pick (eqb answers (rowSize * callsIn trace) && eqb plan planSize) 0 11
+
+-- 9, then 1, then 11
+unfoldable pub replayRefusal : List ℕ → (answers plan : ℕ) → ℕ
+replayRefusal trace answers plan = traceRefusal trace then listsRefusal trace answers plan
+
+-- the number on the display, 0 where the trace was run, and the number told
+abbrev pub replayedNumber : Replayed → ℕ
+replayedNumber (Done told) = 0
+replayedNumber (Refused why) = refusalNumber why
+
+abbrev pub toldIn : Replayed → ℕ
+toldIn (Done told) = told
+toldIn (Refused why) = 0
+
+-- Calls that were run from a fresh planner with limits l: answers′ are the rows of what the line answers; the number told and the
+-- first numbers of plan′ meet demand 3; the others are as they were in plan.
+pub record Demanded (l : Limits) (calls : List Call) (told : ℕ) (answers′ plan plan′ : List ℕ) : Type 0 where
+  pub rows : answers′ ≡ rowsOf (lineAnswers (freshLine l) calls)
+  pub demand : Demand3 l calls (lineAnswers (freshLine l) calls) told (take (told + 1) plan′)
+  pub rest : drop (told + 1) plan′ ≡ drop (told + 1) plan
+
+-- Both lists as they were.
+pub record Unchanged (answers plan answers′ plan′ : List ℕ) : Type 0 where
+  pub answers-same : answers′ ≡ answers
+  pub plan-same : plan′ ≡ plan
+
+-- A trace that is run, or refused.
+pub record Replays (trace answers plan : List ℕ) (r : Replayed) (answers′ plan′ : List ℕ) : Type 0 where
+  pub number : replayedNumber r ≡ replayRefusal trace (length answers) (length plan)
+  pub run : replayedNumber r ≡ 0 → Demanded (limitsAt trace) (traceCalls trace) (toldIn r) answers′ plan plan′
+  pub refused : 0 < replayedNumber r → Unchanged answers plan answers′ plan′

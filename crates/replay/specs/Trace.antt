@@ -1,0 +1,71 @@
+-- A trace: the limits as on tape, then 28 bytes a call, seven 32-bit words, most significant byte first. Assumes nothing.
+use Prim.Native.Nat.{ℕ, zero, suc, _+_, _-_, _*_, _/_, _%_}
+use mathlib.Core.Bool.{_||_, not}
+use mathlib.Core.List.{List, [], _∷_}
+use lib.Dec.{ltb, eqb}
+use lib.ListN.{length, take, drop}
+use Rattle.fields.specs.Fields.{fieldOf}
+use Rattle.fields.specs.Signed.{signedOf}
+use Rattle.machine.specs.Checks.{pick}
+use Rattle.machine.specs.declared.Block.{Block}
+use Rattle.line.specs.Blocks as line
+use Rattle.tape.specs.Tape.{limitsBytes}
+use Rattle.tape.specs.Display.{_then_, limitsFault}
+
+-- bytes of a call, and bits of a word
+abbrev pub callBytes : ℕ
+callBytes = 28
+
+abbrev pub wordBits : ℕ
+wordBits = 32
+
+-- word i of a call's bytes
+abbrev pub wordOf : List ℕ → ℕ → ℕ
+wordOf bytes i = fieldOf bytes (wordBits * i) wordBits
+
+-- the block of a call: moves X, Y, Z by two's complement, feed, radius, mark
+unfoldable pub blockOf : List ℕ → Block
+blockOf bytes =
+    record {
+      x = signedOf wordBits (wordOf bytes 1);
+      y = signedOf wordBits (wordOf bytes 2);
+      z = signedOf wordBits (wordOf bytes 3);
+      feed = wordOf bytes 4;
+      radius = wordOf bytes 5;
+      mark = wordOf bytes 6;
+    }
+
+-- a call by its kind: 0 is a take, any other number an add; a take's block plays no part
+abbrev pub callBy : (kind : ℕ) → Block → line.Call
+callBy zero b = line.take
+callBy (suc n) b = line.add b
+
+unfoldable pub callOf : List ℕ → line.Call
+callOf bytes = callBy (wordOf bytes 0) (blockOf bytes)
+
+-- the byte at which call k begins, k counted from 0, and that call
+abbrev pub callStart : ℕ → ℕ
+callStart k = limitsBytes + callBytes * k
+
+abbrev pub callAt : List ℕ → ℕ → line.Call
+callAt trace k = callOf (take callBytes (drop (callStart k) trace))
+
+-- how many calls a trace has behind its limits
+abbrev pub callsIn : List ℕ → ℕ
+callsIn trace = (length trace - limitsBytes) / callBytes
+
+-- n calls of a trace, from call k on, and all of them
+unfoldable pub callsFrom : List ℕ → (k n : ℕ) → List line.Call
+callsFrom trace k zero = []
+callsFrom trace k (suc n) = callAt trace k ∷ callsFrom trace (suc k) n
+
+abbrev pub traceCalls : List ℕ → List line.Call
+traceCalls trace = callsFrom trace 0 (callsIn trace)
+
+-- 9 where a trace is under 24 bytes or its rest no multiple of 28, else 0
+abbrev pub raggedTrace : List ℕ → ℕ
+raggedTrace trace = pick (ltb (length trace) limitsBytes || not (eqb ((length trace - limitsBytes) % callBytes) 0)) 9 0
+
+-- what is wrong in the trace itself: 9, then 1
+unfoldable pub traceRefusal : List ℕ → ℕ
+traceRefusal trace = raggedTrace trace then limitsFault trace

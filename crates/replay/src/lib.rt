@@ -1,0 +1,105 @@
+// Runs a trace, a list of calls of any length, through a planner. What it answers and leaves in the
+// lent lists is demand 3 of that list of calls (specs/Replays.antt). A trace is the 24 bytes of
+// limits as on tape, then 28 bytes a call: seven 32-bit words, most significant byte first: kind (0
+// is a take, any other number an add), moves X, Y, Z by two's complement, feed, radius, mark. A
+// take's other words play no part.
+ghost use mathlib.Core.Path.{_≡_};
+ghost use Prim.Native.Nat.{_*_, _≤_};
+ghost use lib.ListN.{length};
+ghost use Rattle.machine.specs.Checks.{limitsRefusal};
+ghost use Rattle.tape.specs.Tape.{limitsAt, limitsBytes};
+ghost use Rattle.tape.specs.Display.{byNumber, given, limitsAnswer, refused};
+ghost use Rattle.replay.specs.Trace.{callsIn, traceCalls, traceRefusal};
+ghost use Rattle.replay.specs.Rows.{rowSize};
+ghost use Rattle.replay.specs.Replays.{Demanded, Replays, planSize};
+ghost use Rattle.replay.specs.Runs.{Ran};
+use machine::Limits;
+use machine::Refusal;
+use planner::NUMBERS;
+use tape::LIMITS_BYTES;
+use tape::LimitsRead;
+use tape::limits::read_limits;
+
+mod calls;
+
+// Bytes of a call.
+pub const CALL_BYTES: usize = 28;
+// Numbers of an answer's row: the number on the display, and of a block given out its moves X, Y, Z
+// by two's complement of 32 bits, feed, radius, mark, length, acceleration, entry, exit, peak, and
+// the lengths of speeding up, of constant speed and of braking; else zeros.
+pub const ROW: usize = 15;
+// Numbers of the list for the plan.
+pub const PLAN: usize = 65;
+
+// The answer of running a trace.
+pub enum Replayed {
+    // the number of blocks held at the end
+    Done(u64),
+    Refused(Refusal),
+}
+
+// The limits of a trace: 9, then 1.
+fn read_head(trace: &[u8]) -> LimitsRead
+    ensures { λ r. ⌜ limitsAnswer r ≡ byNumber (traceRefusal (now (trace .entry))) (given (limitsAt (now (trace .entry)))) (refused (traceRefusal (now (trace .entry)))) ⌝ }
+{
+    if trace.len() < LIMITS_BYTES {
+        return LimitsRead::Refused(Refusal::Ragged);
+    }
+    if (trace.len() - LIMITS_BYTES) % CALL_BYTES != 0 {
+        return LimitsRead::Refused(Refusal::Ragged);
+    }
+    read_limits(trace)
+}
+
+// Runs the calls in turn, each into its row.
+fn run(trace: &[u8], memory: &mut [u64; NUMBERS], answers: &mut [u64])
+    requires { ⌜ (limitsBytes ≤ length (now trace)) × (length (now answers) ≡ rowSize * callsIn (now trace)) ⌝ }
+    ensures { λ r. ⌜ Ran (traceCalls (now (trace .entry))) (now (memory .entry)) (now (memory .exit)) (now (answers .exit)) ⌝ }
+{
+    let n = (trace.len() - LIMITS_BYTES) / CALL_BYTES;
+    let mut k: usize = 0;
+    while k < n {
+        let from = LIMITS_BYTES + CALL_BYTES * k;
+        let to = from + CALL_BYTES;
+        let first = ROW * k;
+        let last = first + ROW;
+        calls::step(&trace[from..to], memory, &mut answers[first..last]);
+        k += 1;
+    }
+}
+
+// Runs the calls from a fresh planner, and shows the plan at the end in the first numbers of its
+// list. Returns the number told.
+fn run_all(trace: &[u8], l: Limits, answers: &mut [u64], plan: &mut [u64]) -> u64
+    requires { ⌜ (limitsRefusal l ≡ 0) × (limitsBytes ≤ length (now trace)) × (length (now answers) ≡ rowSize * callsIn (now trace)) × (length (now plan) ≡ planSize) ⌝ }
+    ensures { λ r. ⌜ Demanded l (traceCalls (now (trace .entry))) r (now (answers .exit)) (now (plan .entry)) (now (plan .exit)) ⌝ }
+{
+    let mut memory = [0u64; NUMBERS];
+    planner::fresh(&mut memory, l);
+    run(trace, &mut memory, answers);
+    let told = planner::told(&memory);
+    let junctions = told as usize + 1;
+    planner::shown(&memory, &mut plan[..junctions]);
+    told
+}
+
+// Runs a trace: `answers` gets a row for each call, the first numbers of `plan` the plan at the end,
+// and the number of blocks held is returned. Checks 9, 1, then 11 where a list has not its length:
+// 15 numbers a call, 65 for the plan. A refusal changes neither list.
+pub fn replay(trace: &[u8], answers: &mut [u64], plan: &mut [u64]) -> Replayed
+    ensures { λ r. ⌜ Replays (now (trace .entry)) (now (answers .entry)) (now (plan .entry)) r (now (answers .exit)) (now (plan .exit)) ⌝ }
+{
+    match read_head(trace) {
+        LimitsRead::Refused(why) => Replayed::Refused(why),
+        LimitsRead::Read(l) => {
+            if answers.len() != ROW * ((trace.len() - LIMITS_BYTES) / CALL_BYTES) {
+                return Replayed::Refused(Refusal::List);
+            }
+            if plan.len() != PLAN {
+                return Replayed::Refused(Refusal::List);
+            }
+            let told = run_all(trace, l, answers, plan);
+            Replayed::Done(told)
+        }
+    }
+}
