@@ -1,6 +1,6 @@
 -- The numbers that a trace's checks come to, by what the code tests. From the definitions. Assumes nothing.
 use mathlib.Core.Path.{_≡_, refl, sym, ap, _∙_}
-use mathlib.Core.Bool.{Bool, true, false, _||_, _&&_, not}
+use mathlib.Core.Bool.{Bool, true, false, _||_, _&&_}
 use mathlib.Core.List.{List}
 use Prim.Native.Nat.{ℕ, _-_, _*_, _%_, _≤_, _<_}
 use native.Mathlib.Omega.{arith}
@@ -13,10 +13,10 @@ use Rattle.machine.specs.declared.Refusal.{Refusal}
 use Rattle.machine.specs.declared.Refusal.the-variants as why
 use Rattle.machine.proofs.AnswerLaws.{refusal-above}
 use Rattle.tape.specs.Tape.{limitsBytes, limitsAt}
-use Rattle.tape.specs.Display.{byNumber, given, refused, limitsFault}
+use Rattle.tape.specs.Display.{given, refused, limitsFault}
 use Rattle.tape.proofs.Answers.{then-first, then-second, then-zero, not-picked, given-is, refused-is}
 use Rattle.tape.proofs.Checks.{limits-faultless}
-use Rattle.replay.specs.Trace.{callBytes, callsIn, traceCalls, raggedTrace, traceRefusal}
+use Rattle.replay.specs.Trace.{callBytes, callsIn, traceCalls, raggedTrace, traceRefusal, readTrace}
 use Rattle.replay.specs.Rows.{rowSize}
 use Rattle.replay.specs.Replays.{planSize, listsRefusal, replayRefusal, Demanded, Replays}
 use Rattle.replay.specs.declared.Replayed.the-variants.{Done, Refused}
@@ -46,7 +46,7 @@ module _ (trace : List ℕ) where
       neither false b e = refl
 
   -- What reading the head gives, or refuses.
-  pub head-given : {l : Limits} → byNumber (traceRefusal trace) (given (limitsAt trace)) (refused (traceRefusal trace)) ≡ given l
+  pub head-given : {l : Limits} → readTrace trace ≡ given l
       → (traceRefusal trace ≡ 0) × ((limitsAt trace ≡ l) × (limitsRefusal l ≡ 0))
   head-given e =
       let r = given-is (limitsAt trace) (traceRefusal trace) (traceRefusal trace) (sym e) in
@@ -65,7 +65,7 @@ module _ (trace answers plan : List ℕ) where
       }
 
   -- by its head
-  pub head-refused : (r : Refusal) → byNumber (traceRefusal trace) (given (limitsAt trace)) (refused (traceRefusal trace)) ≡ refused (refusalNumber r)
+  pub head-refused : (r : Refusal) → readTrace trace ≡ refused (refusalNumber r)
       → Replays trace answers plan (Refused r) answers plan
   unfolding replayRefusal
   head-refused r e =

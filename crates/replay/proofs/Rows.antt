@@ -1,10 +1,11 @@
 -- Rows: stored whole, how many numbers, and of one answer more. From the definitions. Assumes nothing.
 use mathlib.Core.List.{List, [], _∷_, _++_, append-nil, append-assoc}
 use mathlib.Core.Path.{_≡_, refl, sym, ap, _∙_}
-use Prim.Native.Nat.{ℕ, _+_, _*_}
+use Prim.Native.Nat.{ℕ, _+_, _*_, _≤_}
 use native.Mathlib.Omega.{arith}
-use lib.ListN.{length, length-append}
-use lib.Seq.{sets, sets-eq, drop-length}
+use lib.ListN.{length, take, length-append}
+use borrow.Rule.Slice.PartMut.{postOf, putMid}
+use lib.Seq.{sets, sets-eq, drop-length, length-take-le, take-at}
 use Rattle.line.specs.Answers.{Answer, accepted, gave, refused}
 use Rattle.line.specs.Blocks.{Call}
 use Rattle.planner.specs.Calls.{Called}
@@ -16,6 +17,12 @@ pub sets-all : {A : Type 0} (vs l : List A) → length l ≡ length vs → sets 
 sets-all vs l e =
     let all : 0 + length vs ≡ length l = omega arith in
     sets-eq vs l 0 (omega arith) ∙ rw (all, drop-length l) (append-nil vs)
+
+-- A list stored in the middle of another: what lies before its end.
+pub stored-behind : (list vs : List ℕ) (from k end : ℕ) → from ≤ length list → from + length vs ≡ end → take end (putMid from k list vs) ≡ take from list ++ vs
+stored-behind list vs from k end h e =
+    let long : length (take from list ++ vs) ≡ end = omega (arith, length-append (take from list) vs, length-take-le from list h) in
+    rw (← append-assoc (take from list) vs (postOf from k list)) (take-at (take from list ++ vs) (postOf from k list) end long)
 
 -- A row has 15 numbers, and so have the rows of each answer.
 row-size : (a : Answer) → length (rowOf a) ≡ rowSize

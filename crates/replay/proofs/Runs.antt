@@ -1,18 +1,18 @@
 -- A run of calls, one call more, and demand 3 of all. From the line's definitions, the laws of rows and the planner's promises. Assumes nothing.
-use mathlib.Core.List.{List, [], _∷_, _++_, append-assoc}
+use mathlib.Core.List.{List, [], _∷_, _++_}
 use mathlib.Core.Path.{_≡_, refl, sym, ap, subst, _∙_}
 use Prim.Native.Nat.{ℕ, zero, suc, _+_, _-_, _*_, _≤_}
 use native.Mathlib.Nat.{add-zero, zero-add}
 use native.Mathlib.Numerals.{add-one}
 use native.Mathlib.Omega.{arith}
-use lib.ListN.{length, take, drop, length-append}
+use lib.ListN.{length, take, drop}
 use lib.Seq.{length-take-le, take-all, take-at, drop-at}
-use borrow.Rule.Slice.PartMut.{postOf, putMid}
+use borrow.Rule.Slice.PartMut.{putMid}
 use Rattle.profile.specs.Line.{Highest}
 use Rattle.machine.specs.Line.{stepsOf}
+use Rattle.machine.specs.declared.Block.{Block}
 use Rattle.machine.specs.declared.Limits.{Limits}
 use Rattle.line.specs.Answers.{Answer}
-use Rattle.machine.specs.declared.Block.{Block}
 use Rattle.line.specs.Blocks as blocks
 use Rattle.line.specs.Blocks.{Call, Line, add, mostHeld, freshLine, lineAnswer, lineAfter, lineAnswers, lineAfterAll}
 use Rattle.line.specs.Holds.{Holds}
@@ -23,7 +23,20 @@ use Rattle.replay.specs.Trace.{wordOf, blockOf, callBy, callOf, callByte
 use Rattle.replay.specs.Rows.{rowsOf, rowSize}
 use Rattle.replay.specs.Replays.{planSize, Demanded}
 use Rattle.replay.specs.Runs.{Stepped, Ran}
-use Rattle.replay.proofs.Rows.{rows-more}
+use Rattle.replay.proofs.Rows.{rows-more, stored-behind}
+
+-- A call by its kind.
+pub call-take : (bytes : List ℕ) → wordOf bytes 0 ≡ 0 → callOf bytes ≡ blocks.take
+unfolding callOf
+call-take bytes e = ap (λ (kind : ℕ). callBy kind (blockOf bytes)) e
+
+pub call-add : (bytes : List ℕ) {b : Block} → (wordOf bytes 0 ≡ 0 → ⊥) → b ≡ blockOf bytes → callOf bytes ≡ add b
+unfolding callOf
+call-add bytes h e = go (wordOf bytes 0) h ∙ ap add (sym e)
+  where
+    go : (kind : ℕ) → (kind ≡ 0 → ⊥) → callBy kind (blockOf bytes) ≡ add (blockOf bytes)
+    go zero h = absurd (h refl)
+    go (suc n) h = refl
 
 -- The line, and the answers, after one call more.
 after-more : (line : Line) (calls : List Call) (c : Call) → lineAfterAll line (calls ++ c ∷ []) ≡ lineAfter (lineAfterAll line calls) c
@@ -44,19 +57,6 @@ calls-more trace j (suc n) =
     let e : suc j + n ≡ j + suc n = omega arith in
     ap (λ (l : List Call). callAt trace j ∷ l) (calls-more trace (suc j) n ∙ ap (λ (i : ℕ). callsFrom trace (suc j) n ++ callAt trace i ∷ []) e)
 
--- A call by its kind.
-pub call-take : (bytes : List ℕ) → wordOf bytes 0 ≡ 0 → callOf bytes ≡ blocks.take
-unfolding callOf
-call-take bytes e = ap (λ (kind : ℕ). callBy kind (blockOf bytes)) e
-
-pub call-add : (bytes : List ℕ) {b : Block} → (wordOf bytes 0 ≡ 0 → ⊥) → b ≡ blockOf bytes → callOf bytes ≡ add b
-unfolding callOf
-call-add bytes h e = go (wordOf bytes 0) h ∙ ap add (sym e)
-  where
-    go : (kind : ℕ) → (kind ≡ 0 → ⊥) → callBy kind (blockOf bytes) ≡ add (blockOf bytes)
-    go zero h = absurd (h refl)
-    go (suc n) h = refl
-
 -- A run of no calls,
 pub ran-none : (trace m rows : List ℕ) → Ran (callsFrom trace 0 0) m m (take 0 rows)
 unfolding callsFrom lineAnswers lineAfterAll rowsOf
@@ -73,7 +73,7 @@ ran-call {calls} {c} r s = record {
       );
 }
 
-pub ran-more : (trace : List ℕ) (k : ℕ) {m m′ m″ rows row : List ℕ} → Ran (callsFrom trace 0 k) m m′ rows → Stepped (callAt trace k) m′ m″ row
+ran-more : (trace : List ℕ) (k : ℕ) {m m′ m″ rows row : List ℕ} → Ran (callsFrom trace 0 k) m m′ rows → Stepped (callAt trace k) m′ m″ row
     → Ran (callsFrom trace 0 (k + 1)) m m″ (rows ++ row)
 ran-more trace k r s = rw (add-one k, calls-more trace 0 k, zero-add k) (ran-call r s)
 
@@ -86,12 +86,7 @@ part-call trace k {m} {m′} {row} s =
 pub ran-stored : (trace rows row : List ℕ) (k j : ℕ) {m m′ m″ : List ℕ} → rowSize * k ≤ length rows → length row ≡ rowSize
     → Ran (callsFrom trace 0 k) m m′ (take (rowSize * k) rows) → Stepped (callAt trace k) m′ m″ row
     → Ran (callsFrom trace 0 (k + 1)) m m″ (take (rowSize * (k + 1)) (putMid (rowSize * k) j rows row))
-ran-stored trace rows row k j {m} {m″} h e r s =
-    let front = take (rowSize * k) rows in
-    let long : length (front ++ row) ≡ rowSize * (k + 1) = omega (arith, length-append front row, length-take-le (rowSize * k) rows h) in
-    let is : take (rowSize * (k + 1)) (putMid (rowSize * k) j rows row) ≡ front ++ row =
-    ap (take (rowSize * (k + 1))) (sym (append-assoc front row (postOf (rowSize * k) j rows))) ∙ take-at (front ++ row) (postOf (rowSize * k) j rows) (rowSize * (k + 1)) long in
-    subst (λ (l : List ℕ). Ran (callsFrom trace 0 (k + 1)) m m″ l) (sym is) (ran-more trace k r s)
+ran-stored trace rows row k j h e r s = rw (stored-behind rows row (rowSize * k) j (rowSize * (k + 1)) h (omega arith)) (ran-more trace k r s)
 
 -- All calls of a trace, where the rows fill the list.
 pub ran-all : (trace rows : List ℕ) {m m′ : List ℕ} (k : ℕ) → k ≡ callsIn trace → length rows ≡ rowSize * callsIn trace
@@ -100,10 +95,11 @@ ran-all trace rows {m} {m′} k e s r =
     subst (λ (j : ℕ). Ran (callsFrom trace 0 j) m m′ rows) e
     (subst (λ (l : List ℕ). Ran (callsFrom trace 0 k) m m′ l) (take-all (rowSize * k) rows (omega arith)) r)
 
--- Demand 3 of calls that were run from a fresh planner, from its promises of the number told and of the plan shown.
+-- A planner tells at most 64.
 pub told-few : {m : List ℕ} {line : Line} (told : ℕ) → Holds (viewOf m) line → Told m told → told ≤ mostHeld
 told-few {line} told h t = omega (arith, t .line line h, h .room)
 
+-- Demand 3 of calls that were run from a fresh planner.
 module _ {l : Limits} {m m′ answers′ : List ℕ} (calls : List Call) (told : ℕ) (fresh : Holds (viewOf m) (freshLine l)) (ran : Ran calls m m′ answers′) where
   abbrev end : Line
   end = lineAfterAll (freshLine l) calls
@@ -111,6 +107,7 @@ module _ {l : Limits} {m m′ answers′ : List ℕ} (calls : List Call) (told :
   pub held : Holds (viewOf m′) end
   held = ran .line (freshLine l) fresh .1
 
+  -- the promise of told and shown behind it
   pub demanded : (plan shown : List ℕ) {said : Answer} → Told m′ told → Showed m′ (take (told + 1) plan) said shown → length plan ≡ planSize
       → length shown ≡ length (take (told + 1) plan) → Demanded l calls told answers′ plan (shown ++ drop (told + 1) plan)
   demanded plan shown t s p e =

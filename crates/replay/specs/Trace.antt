@@ -8,9 +8,10 @@ use Rattle.fields.specs.Fields.{fieldOf}
 use Rattle.fields.specs.Signed.{signedOf}
 use Rattle.machine.specs.Checks.{pick}
 use Rattle.machine.specs.declared.Block.{Block}
+use Rattle.machine.specs.declared.Limits.{Limits}
 use Rattle.line.specs.Blocks as line
-use Rattle.tape.specs.Tape.{limitsBytes}
-use Rattle.tape.specs.Display.{_then_, limitsFault}
+use Rattle.tape.specs.Tape.{limitsBytes, limitsAt}
+use Rattle.tape.specs.Display.{Answer, given, refused, byNumber, _then_, limitsFault}
 
 -- bytes of a call, and bits of a word
 abbrev pub callBytes : ℕ
@@ -69,3 +70,7 @@ raggedTrace trace = pick (ltb (length trace) limitsBytes || not (eqb ((length tr
 -- what is wrong in the trace itself: 9, then 1
 unfoldable pub traceRefusal : List ℕ → ℕ
 traceRefusal trace = raggedTrace trace then limitsFault trace
+
+-- what reading the head of a trace answers: the limits, or the number
+abbrev pub readTrace : List ℕ → Answer ℕ Limits
+readTrace trace = byNumber (traceRefusal trace) (given (limitsAt trace)) (refused (traceRefusal trace))

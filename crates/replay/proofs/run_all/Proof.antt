@@ -1,7 +1,6 @@
 -- `replay::run_all` meets its contract: the fresh planner holds the fresh line, and `demanded` has the rest. From the planner's promises. Assumes nothing.
 use mathlib.Core.Path.{sym, _∙_}
-use mathlib.Core.List.{List}
-use Prim.Native.Nat.{ℕ, _+_, _≤_}
+use Prim.Native.Nat.{_+_, _≤_}
 use native.Mathlib.Omega.{arith}
 use lib.Seq.{length-take-le}
 use Rattle.line.specs.Blocks.{freshLine, mostHeld}
