@@ -1,6 +1,6 @@
 -- The memory as a ring: what is read of a place, and what the view is after stores. Assumes nothing.
 use mathlib.Core.Bool.{Bool, true, false}
-use mathlib.Core.List.{List, [], _∷_}
+use mathlib.Core.List.{List, [], _∷_, append-nil}
 use mathlib.Core.Path.{_≡_, refl, sym, ap, _∙_}
 use Prim.Native.Nat.{ℕ, zero, suc, _+_, _-_, _*_, _/_, _%_, _≤_, _<_}
 use borrow.Author.Tests.{ltb-true, ltb-false}
@@ -9,11 +9,17 @@ use native.Mathlib.Numerals.{towards-suc}
 use native.Mathlib.Omega.{arith}
 use lib.Dec.{ltb, lit<}
 use lib.ListN.{length, getD, set, length-set}
-use lib.Seq.{sets, getD-set-same, getD-set-other, ext-getD}
+use lib.Seq.{sets, sets-eq, drop-length, getD-set-same, getD-set-other, ext-getD}
 use Rattle.machine.specs.declared.Limits.{Limits}
 use Rattle.line.specs.Blocks.{mostHeld}
 use Rattle.line.specs.Ring.{Place, Ring, noPlace, placeAt, slot, withPlace, withLimit, freshRing}
 use Rattle.planner.specs.View.{memorySize, headSize, placeSize, baseOf, placeFrom, numbersFor, placesFrom, limitsFrom, limitNumbers, viewOf}
+
+-- A list stored from its begin to its end is what was stored.
+pub sets-all : {A : Type 0} (vs l : List A) → length l ≡ length vs → sets l 0 vs ≡ vs
+sets-all vs l e =
+    let all : 0 + length vs ≡ length l = omega arith in
+    sets-eq vs l 0 (omega arith) ∙ rw (all, drop-length l) (append-nil vs)
 
 -- There are as many places as asked for,
 pub places-length : (n : ℕ) (m : List ℕ) (at : ℕ) → length (placesFrom n m at) ≡ n

@@ -1,23 +1,14 @@
 -- From a call's promise to that of the function for C. Assumes nothing.
-use mathlib.Core.List.{List, append-nil}
+use mathlib.Core.List.{List}
 use mathlib.Core.Path.{_≡_, refl, ap, _∙_}
-use Prim.Native.Nat.{ℕ, zero, suc, _+_}
-use native.Mathlib.Omega.{arith}
+use Prim.Native.Nat.{ℕ, zero, suc}
 use lib.IntN.{ℤ}
-use lib.ListN.{length}
-use lib.Seq.{sets, sets-eq, drop-length}
 use Rattle.line.specs.Answers.{Answer}
 use Rattle.line.specs.Blocks.{Call, addAnswer}
 use Rattle.line.specs.Ring.{ringAnswer}
 use Rattle.planner.specs.Calls.{Called, Showed}
 use Rattle.planner.specs.View.{viewOf}
 use Rattle.planner_c.specs.Exports.{answerNumber, movesAfter, numbersAfter, Exported, Lent, Listed}
-
--- A list stored from its begin to its end is what was stored.
-pub sets-all : {A : Type 0} (vs l : List A) → length l ≡ length vs → sets l 0 vs ≡ vs
-sets-all vs l e =
-    let all : 0 + length vs ≡ length l = omega arith in
-    sets-eq vs l 0 (omega arith) ∙ rw (all, drop-length l) (append-nil vs)
 
 -- A call by its number,
 pub exported : {m m′ : List ℕ} {call : Call} {said : Answer} (n : ℕ) → Called m call said m′ → n ≡ answerNumber said → Exported m call n m′

@@ -1,22 +1,16 @@
--- Rows: stored whole, how many numbers, and of one answer more. From the definitions. Assumes nothing.
+-- Rows: how many numbers, and of one answer more. From the definitions. Assumes nothing.
 use mathlib.Core.List.{List, [], _∷_, _++_, append-nil, append-assoc}
 use mathlib.Core.Path.{_≡_, refl, sym, ap, _∙_}
 use Prim.Native.Nat.{ℕ, _+_, _*_, _≤_}
 use native.Mathlib.Omega.{arith}
 use lib.ListN.{length, take, length-append}
 use borrow.Rule.Slice.PartMut.{postOf, putMid}
-use lib.Seq.{sets, sets-eq, drop-length, length-take-le, take-at}
+use lib.Seq.{length-take-le, take-at}
 use Rattle.line.specs.Answers.{Answer, accepted, gave, refused}
 use Rattle.line.specs.Blocks.{Call}
 use Rattle.planner.specs.Calls.{Called}
 use Rattle.replay.specs.Rows.{rowSize, rowOf, rowsOf}
 use Rattle.replay.specs.Runs.{Stepped}
-
--- A list stored from its begin to its end is what was stored.
-pub sets-all : {A : Type 0} (vs l : List A) → length l ≡ length vs → sets l 0 vs ≡ vs
-sets-all vs l e =
-    let all : 0 + length vs ≡ length l = omega arith in
-    sets-eq vs l 0 (omega arith) ∙ rw (all, drop-length l) (append-nil vs)
 
 -- A list stored in the middle of another: what lies before its end.
 pub stored-behind : (list vs : List ℕ) (from k end : ℕ) → from ≤ length list → from + length vs ≡ end → take end (putMid from k list vs) ≡ take from list ++ vs

@@ -7,7 +7,7 @@ use lib.ListN.{length-set}
 use lib.Seq.{sets}
 use Rattle.arith.proofs.SignedLaws.{field-back}
 use Rattle.planner_c.specs.Exports.{movesFor, givenNumbers}
-use Rattle.planner_c.proofs.Displayed.{sets-all}
+use Rattle.planner.proofs.View.{sets-all}
 use Rattle.planner_c.proofs.hand_out.Statement.{statement}
 use Rattle.planner_c.proofs.hand_out.Tie as tie
 

@@ -8,7 +8,7 @@ use Rattle.arith.proofs.SignedLaws.{field-back}
 use Rattle.fields.specs.Signed.{bitsOf}
 use Rattle.replay.specs.Trace.{wordBits}
 use Rattle.replay.specs.Rows.{rowFrom}
-use Rattle.replay.proofs.Rows.{sets-all}
+use Rattle.planner.proofs.View.{sets-all}
 use borrow.Author.Needs.{needs}
 use Rattle.replay.proofs.calls.write_row.Statement.{statement}
 use Rattle.replay.proofs.calls.write_row.Tie as tie
