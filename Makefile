@@ -4,14 +4,16 @@
 test:
 	@tests/run
 
-# make expected: the cases of the program machine_run and what it must write for them, made again by the
-# independent implementation.
+# make expected: the cases of the programs machine_run and tape_run and what these must write for them,
+# made again by the independent implementation.
 EXPECT = CARGO_TARGET_DIR=target/reference cargo run --quiet --release --offline \
-    --manifest-path tests/reference/Cargo.toml --bin machine_expect --
+    --manifest-path tests/reference/Cargo.toml --bin
 
 expected:
-	$(EXPECT) cases > crates/machine_run/stdin
-	$(EXPECT) answers < crates/machine_run/stdin > crates/machine_run/stdout
+	$(EXPECT) machine_expect -- cases > crates/machine_run/stdin
+	$(EXPECT) machine_expect -- answers < crates/machine_run/stdin > crates/machine_run/stdout
+	$(EXPECT) tape_expect -- cases > crates/tape_run/stdin
+	$(EXPECT) tape_expect -- answers < crates/tape_run/stdin > crates/tape_run/stdout
 
 fmt:
 	@rt fmt

@@ -1,5 +1,5 @@
 -- Two's complement of any width: `signedOf` and `bitsOf` are inverse. From the definitions and the laws of powers.
-use mathlib.Core.Path.{_≡_, refl, ap}
+use mathlib.Core.Path.{_≡_, refl, ap, _∙_}
 use mathlib.Core.Bool.{Bool, true, false, cond}
 use Prim.Native.Nat.{ℕ, zero, suc, _+_, _-_, _%_, _^_, _≤_, _<_}
 use native.Mathlib.Nat.{mod-lt, mod-mod, mod-eq-of-lt, two-pow-succ, zero-add}
@@ -93,6 +93,17 @@ module _ (width : ℕ) {p : ℕ} (e : p ≡ 2 ^ width) where
   bits-negative {z} {n} f =
       let g : 2 ^ width - suc (n % 2 ^ width) ≡ 2 ^ width - 1 - n % 2 ^ width = omega arith in
       rw (e, f, g)
+
+-- A whole word, by its halves.
+pub word-low : (n : ℕ) → n < 2 ^ 63 → signedOf 64 n ≡ pos n
+word-low n l =
+    let m : n % 2 ^ 64 ≡ n = mod-eq-of-lt (omega arith) in
+    signed-low 64 {p = 2 ^ 64} refl n (rw m (omega arith)) ∙ ap pos m
+
+pub word-high : (n : ℕ) → 2 ^ 63 ≤ n → n < 2 ^ 64 → signedOf 64 n ≡ negsuc (2 ^ 64 - 1 - n)
+word-high n l h =
+    let m : n % 2 ^ 64 ≡ n = mod-eq-of-lt h in
+    signed-high 64 {p = 2 ^ 64} refl n (rw m (omega arith)) ∙ ap (λ (k : ℕ). negsuc (2 ^ 64 - 1 - k)) m
 
 -- -1 less an integer is its complement.
 pub flip-natural : (n : ℕ) → negsuc 0 -ℤ pos n ≡ negsuc n

@@ -141,6 +141,17 @@ pub fn to_signed(bits: u64, width: usize) -> i64
     }
 }
 
+// The integer that a whole word stands for, by two's complement.
+pub fn signed_word(word: u64) -> i64
+    ensures { λ r. ⌜ r ≡ signedOf 64 word ⌝ }
+{
+    if word < 9_223_372_036_854_775_808 {
+        word as i64
+    } else {
+        negative(18_446_744_073_709_551_615 - word)
+    }
+}
+
 // The `width` low bits of an integer, by two's complement.
 pub fn to_bits(z: i64, width: usize) -> u64
     requires { ⌜ width < 64 ⌝ }

@@ -5,7 +5,8 @@
 // complement, so that -1 is also the greatest unsigned number. The answer has the numbers of the
 // first block (length, acceleration, reach, cap), those of the second, and the junction cap between
 // them, each of the three with its refusal in its place, and ` | ` between.
-ghost use Prim.Native.Nat.{_^_, _<_};
+ghost use Prim.Native.Nat.{_<_};
+use fields::signed_word;
 use libc::STDIN_FILENO;
 use libc::STDOUT_FILENO;
 use machine::Axes;
@@ -63,22 +64,6 @@ fn word_of(value: u64, minus: bool) -> u64 {
     }
 }
 
-// -(n + 1).
-fn below_zero(n: u64) -> i64
-    requires { ⌜ n < 2 ^ 63 ⌝ }
-{
-    -1 - n as i64
-}
-
-// The signed number of a word.
-fn signed(word: u64) -> i64 {
-    if word < 9_223_372_036_854_775_808 {
-        word as i64
-    } else {
-        below_zero(18_446_744_073_709_551_615 - word)
-    }
-}
-
 // The number being read is whole: it becomes the next word.
 fn with_word(s: State) -> State {
     let mut words = s.words;
@@ -120,9 +105,9 @@ fn block_at(w: [u64; WORDS], at: usize) -> Block
     requires { ⌜ at < 16 ⌝ }
 {
     Block {
-        x: signed(w[at]),
-        y: signed(w[at + 1]),
-        z: signed(w[at + 2]),
+        x: signed_word(w[at]),
+        y: signed_word(w[at + 1]),
+        z: signed_word(w[at + 2]),
         feed: w[at + 3],
         radius: w[at + 4],
         mark: w[at + 5],

@@ -22,4 +22,5 @@ pub mod refusal;
 pub mod rng;
 pub mod search;
 pub mod tape;
+pub mod tape_cases;
 pub mod trace;

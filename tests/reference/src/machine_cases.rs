@@ -94,7 +94,7 @@ impl Case {
 }
 
 /// Numbers with one space between.
-fn spaced<T: Display>(numbers: &[T]) -> String {
+pub(crate) fn spaced<T: Display>(numbers: &[T]) -> String {
     let texts: Vec<String> = numbers.iter().map(T::to_string).collect();
     texts.join(" ")
 }

@@ -19,8 +19,10 @@ const SPEED_BITS: usize = 20;
 const JUMP_BITS: usize = 20;
 const CHORD_BITS: usize = 10;
 const TICK_BITS: usize = 14;
-const ZERO_BITS: usize = 13;
-const MOVE_BITS: usize = 21;
+/// Zero bits at the end of the limits.
+pub const ZERO_BITS: usize = 13;
+/// Bits of a move in a record.
+pub const MOVE_BITS: usize = 21;
 const FEED_BITS: usize = 20;
 const RADIUS_BITS: usize = 24;
 const MARK_BITS: usize = 21;

@@ -1,0 +1,31 @@
+-- `fields::signed_word`: the two halves, from `word-low` and `word-high`.
+use mathlib.Core.Path.{sym, _∙_}
+use native.Mathlib.Omega.{arith}
+use mir.Syntax.{w64}
+use mir.Facts.{toZ-pos, toZ-ofZ}
+use Rattle.fields.proofs.Signed.{word-low, word-high}
+use borrow.Author.Needs.{needs}
+use Rattle.fields.proofs.signed_word.Statement.{statement}
+use Rattle.fields.proofs.signed_word.Tie as tie
+
+cast-result : tie.Need-cast-result
+cast-result c = search needs
+
+sub-negative : tie.Need-sub-negative
+sub-negative c = search needs
+
+negative-requires : tie.Need-negative-requires
+negative-requires c κs = search needs
+
+returns : tie.Need-returns
+returns c = toZ-pos w64 (omega arith) ∙ sym (word-low _ (omega arith))
+
+returns-2 : tie.Need-returns-2
+returns-2 c =
+    toZ-ofZ {w = w64} (record { sfits = c .negative .ok })
+    ∙ c .negative .ensures
+    ∙ sym (word-high _ (c .before .if1 .left) (c .before .before .fits .word .fits))
+
+pub signed-word-spec : {M : Type 1} → statement M
+signed-word-spec =
+    tie.close (tie.spec cast-result sub-negative negative-requires returns returns-2)

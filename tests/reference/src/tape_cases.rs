@@ -1,0 +1,486 @@
+//! Cases for the tape's calls: bytes lent or words to write, and what is answered.
+
+use std::ops::RangeInclusive;
+
+use crate::generate::{faulty_block, faulty_limits, limits, machine_m, path, BLOCK_FAULTS};
+use crate::machine::{range, Block, Limits};
+use crate::machine_cases::spaced;
+use crate::refusal::Refusal;
+use crate::rng::Rng;
+use crate::tape::{
+    pack_limits, pack_record, read_limits, read_record, read_tape, unpack_limits, unpack_record,
+    write_limits, write_record, Tape, LIMITS_BYTES, MOST_BLOCKS, MOST_BYTES, MOVE_BITS,
+    RECORD_BYTES, ZERO_BITS,
+};
+
+/// Bytes of the buffer of which every case lends the first ones.
+pub const BUFFER_BYTES: usize = 40_000;
+/// Words of the limits and of a block.
+const LIMIT_WORDS: usize = 9;
+const BLOCK_WORDS: usize = 6;
+/// Words of a case's head: kind, bytes lent, bytes stored, words to write.
+const HEAD_WORDS: usize = 3 + LIMIT_WORDS;
+const WORD_BYTES: usize = 8;
+/// Byte that a part of the tape holds before it is written.
+const FILLER: u8 = 0xa5;
+/// Faulty blocks drawn for each set of refusals.
+const DRAWS: usize = 4;
+
+/// Calls on a lent part of the tape, or on a whole one.
+#[derive(Clone, Copy, Debug, PartialEq, Eq)]
+pub enum Kind {
+    ReadLimits = 0,
+    ReadRecord = 1,
+    WriteLimits = 2,
+    WriteRecord = 3,
+    Check = 4,
+}
+
+const KINDS: [Kind; 5] = [
+    Kind::ReadLimits,
+    Kind::ReadRecord,
+    Kind::WriteLimits,
+    Kind::WriteRecord,
+    Kind::Check,
+];
+
+/// One call: what is stored at the buffer's begin, then the bytes lent.
+#[derive(Clone, Debug, PartialEq, Eq)]
+pub struct Case {
+    pub kind: Kind,
+    pub lent: usize,
+    pub words: [u64; LIMIT_WORDS],
+    pub stored: Vec<u8>,
+}
+
+impl Case {
+    /// A call without words on `lent` bytes of the buffer.
+    fn lending(kind: Kind, stored: &[u8], lent: usize) -> Case {
+        assert!(stored.len() <= lent && lent <= BUFFER_BYTES);
+        Case {
+            kind,
+            lent,
+            words: [0; LIMIT_WORDS],
+            stored: stored.to_vec(),
+        }
+    }
+
+    /// A call that lends just the bytes stored.
+    fn reading(kind: Kind, stored: &[u8]) -> Case {
+        Case::lending(kind, stored, stored.len())
+    }
+
+    /// The limits written into a part of `lent` filler bytes.
+    fn writing_limits(limits: &Limits, lent: usize) -> Case {
+        let words = limit_words(limits);
+        Case {
+            words,
+            ..Case::reading(Kind::WriteLimits, &vec![FILLER; lent])
+        }
+    }
+
+    /// The block written into a part of `lent` filler bytes.
+    fn writing_record(block: &Block, lent: usize) -> Case {
+        let words = block_words(block);
+        Case {
+            words,
+            ..Case::reading(Kind::WriteRecord, &vec![FILLER; lent])
+        }
+    }
+
+    /// The case as bytes: its head, most significant byte first, then what is
+    /// stored.
+    pub fn bytes(&self) -> Vec<u8> {
+        let head = [self.kind as u64, self.lent as u64, self.stored.len() as u64];
+        let words = head.iter().chain(&self.words);
+        let mut bytes: Vec<u8> = words.flat_map(|w| w.to_be_bytes()).collect();
+        bytes.extend(&self.stored);
+        bytes
+    }
+
+    /// The answer as a line; the buffer keeps what is stored and written.
+    fn answer(&self, buffer: &mut [u8]) -> String {
+        buffer[..self.stored.len()].copy_from_slice(&self.stored);
+        let part = &mut buffer[..self.lent];
+        match self.kind {
+            Kind::ReadLimits => {
+                let shown = |l| format!("limits {}", spaced(&limit_words(&l)));
+                read_limits(part).map_or_else(refused, shown)
+            }
+            Kind::ReadRecord => read_record(part).map_or_else(refused, record_line),
+            Kind::WriteLimits => {
+                let answer = write_limits(&limits_of(&self.words), part);
+                written(answer, part)
+            }
+            Kind::WriteRecord => {
+                let answer = write_record(&block_of(&self.words), part);
+                written(answer, part)
+            }
+            Kind::Check => match read_tape(part) {
+                Ok(tape) => format!("accepted {}", tape.blocks.len()),
+                Err(fault) => format!("{} at {}", refused(fault.refusal), fault.place),
+            },
+        }
+    }
+}
+
+/// The cases one after the other as bytes.
+pub fn bytes_of(cases: &[Case]) -> Vec<u8> {
+    cases.iter().flat_map(Case::bytes).collect()
+}
+
+/// The cases that such bytes denote.
+pub fn cases_of(stdin: &[u8]) -> Vec<Case> {
+    let mut rest = stdin;
+    let mut cases = Vec::new();
+    while !rest.is_empty() {
+        let (head, after) = rest.split_at(HEAD_WORDS * WORD_BYTES);
+        let words: Vec<u64> = head.chunks(WORD_BYTES).map(word).collect();
+        let (stored, next) = after.split_at(words[2] as usize);
+        cases.push(Case {
+            words: words[3..].try_into().expect("nine words"),
+            ..Case::lending(KINDS[words[0] as usize], stored, words[1] as usize)
+        });
+        rest = next;
+    }
+    cases
+}
+
+/// The answers to such bytes, a line for each case.
+pub fn answers(stdin: &[u8]) -> String {
+    let mut buffer = vec![0; BUFFER_BYTES];
+    let cases = cases_of(stdin);
+    let lines = cases.iter().map(|case| case.answer(&mut buffer) + "\n");
+    lines.collect()
+}
+
+/// Word of 8 bytes, most significant byte first.
+fn word(bytes: &[u8]) -> u64 {
+    u64::from_be_bytes(bytes.try_into().expect("eight bytes"))
+}
+
+fn refused(refusal: Refusal) -> String {
+    format!("refused {}", refusal.number())
+}
+
+/// The record that was read.
+fn record_line(block: Block) -> String {
+    let rest = [block.feed, block.radius, block.mark];
+    format!("record {} {}", spaced(&block.moves), spaced(&rest))
+}
+
+/// How a write ended, and the lent bytes after it.
+fn written(answer: Result<(), Refusal>, part: &[u8]) -> String {
+    let hex: String = part.iter().map(|byte| format!("{byte:02x}")).collect();
+    let end = answer.map_or_else(refused, |()| "written".to_string());
+    format!("{end} {hex}")
+}
+
+/// Acceleration X, Y, Z, speed X, Y, Z, J, E, T.
+fn limit_words(l: &Limits) -> [u64; LIMIT_WORDS] {
+    let [ax, ay, az] = l.accel;
+    let [sx, sy, sz] = l.speed;
+    [ax, ay, az, sx, sy, sz, l.jump, l.chord, l.tick]
+}
+
+/// The limits of such words.
+fn limits_of(words: &[u64; LIMIT_WORDS]) -> Limits {
+    let [ax, ay, az, sx, sy, sz, jump, chord, tick] = *words;
+    Limits {
+        accel: [ax, ay, az],
+        speed: [sx, sy, sz],
+        jump,
+        chord,
+        tick,
+    }
+}
+
+/// Moves X, Y, Z in two's complement, feed, radius, mark; the rest 0.
+fn block_words(block: &Block) -> [u64; LIMIT_WORDS] {
+    let [x, y, z] = block.moves.map(|m| m as u64);
+    [x, y, z, block.feed, block.radius, block.mark, 0, 0, 0]
+}
+
+/// The block of such words.
+fn block_of(words: &[u64; LIMIT_WORDS]) -> Block {
+    let [x, y, z, feed, radius, mark] = words[..BLOCK_WORDS].try_into().expect("six words");
+    Block {
+        moves: [x as i64, y as i64, z as i64],
+        feed,
+        radius,
+        mark,
+    }
+}
+
+/// All cases, in the order of the groups below.
+pub fn cases() -> Vec<Case> {
+    let mut rng = Rng::new(4);
+    let mut all = limits_read(&mut rng);
+    all.extend(records_read(&mut rng));
+    all.extend(limits_written(&mut rng));
+    all.extend(records_written(&mut rng));
+    all.extend(written_then_read(&mut rng));
+    all.extend(short_tapes(&mut rng));
+    all.extend(faulty_records(&mut rng));
+    all.extend(long_tapes(&mut rng));
+    all
+}
+
+/// A block that passes, with a sign and a value in every field.
+fn plain() -> Block {
+    Block {
+        moves: [3, -4, 5],
+        feed: 20_000,
+        radius: 1_000,
+        mark: 7,
+    }
+}
+
+/// A range's ends, one beyond each, the same in the lowest 32 bits as the low
+/// end, and the greatest word.
+fn ends(range: RangeInclusive<u64>) -> Vec<u64> {
+    let (low, high) = (*range.start(), *range.end());
+    let alias = low + (1 << u32::BITS);
+    let mut values = vec![low, high, high + 1, alias, u64::MAX];
+    values.extend(low.checked_sub(1));
+    values
+}
+
+/// Each limit at its ends and beyond, the others being machine M's.
+fn limit_ends() -> Vec<Limits> {
+    let ranges = [
+        [range::ACCEL; 3],
+        [range::SPEED; 3],
+        [range::JUMP, range::CHORD, range::TICK],
+    ];
+    let mut all = Vec::new();
+    for (field, range) in ranges.into_iter().flatten().enumerate() {
+        for value in ends(range) {
+            let mut words = limit_words(&machine_m());
+            words[field] = value;
+            all.push(limits_of(&words));
+        }
+    }
+    all
+}
+
+/// Moves at the ends of the range and of the tape's field, and beyond.
+fn move_ends() -> Vec<i64> {
+    let (low, high) = (*range::MOVE.start(), *range::MOVE.end());
+    let field = 1 << (MOVE_BITS - 1);
+    let alias = 1 << u32::BITS;
+    let mut values = vec![-1, 0, 1, low, high, low - 1, high + 1];
+    values.extend([-field - 1, -field, field - 1, field]);
+    values.extend([-alias, alias, alias + 1, i64::MIN, i64::MAX]);
+    values
+}
+
+/// Each field of a block at its ends and beyond; a move also on its own.
+fn block_ends() -> Vec<Block> {
+    let mut all = Vec::new();
+    for others in [plain().moves, [0; 3]] {
+        for axis in 0..3 {
+            for value in move_ends() {
+                let mut moves = others;
+                moves[axis] = value;
+                all.push(Block { moves, ..plain() });
+            }
+        }
+    }
+    let fed = |feed| Block { feed, ..plain() };
+    let curved = |radius| Block { radius, ..plain() };
+    let marked = |mark| Block { mark, ..plain() };
+    all.extend(ends(range::FEED).into_iter().map(fed));
+    all.extend(ends(range::RADIUS).into_iter().map(curved));
+    all.extend(ends(range::MARK).into_iter().map(marked));
+    all
+}
+
+/// Blocks with each set of refusals that can hold at once.
+fn faulty_blocks(rng: &mut Rng, on_tape: bool) -> Vec<Block> {
+    let mark = Refusal::Mark.number();
+    let kept = |faults: &&&[u64]| !on_tape || !faults.contains(&mark);
+    let sets = BLOCK_FAULTS.iter().filter(kept);
+    sets.flat_map(|faults| [*faults; DRAWS])
+        .map(|faults| faulty_block(rng, faults, on_tape))
+        .collect()
+}
+
+/// Limits read alone: 9 first, then 1, later bytes playing no part.
+fn limits_read(rng: &mut Rng) -> Vec<Case> {
+    let fits = |l: &Limits| unpack_limits(&pack_limits(l, 0)).0 == *l;
+    let ends = limit_ends().into_iter().filter(fits);
+    let mut tapes: Vec<Vec<u8>> = ends.map(|l| pack_limits(&l, 0)).collect();
+    for field in 0..LIMIT_WORDS {
+        let mut words = limit_words(&machine_m());
+        words[field] = u64::MAX; // all bits of the field set
+        tapes.push(pack_limits(&limits_of(&words), 0));
+    }
+    tapes.extend((0..ZERO_BITS).map(|bit| pack_limits(&machine_m(), 1 << bit)));
+    tapes.push(pack_limits(&machine_m(), u64::MAX));
+    tapes.push(pack_limits(&faulty_limits(rng), 1));
+    tapes.extend((0..8).map(|_| pack_limits(&limits(rng), 0)));
+    let mut cases: Vec<Case> = tapes
+        .iter()
+        .map(|tape| Case::reading(Kind::ReadLimits, tape))
+        .collect();
+    let whole = |l: &Limits, last_bits| [pack_limits(l, last_bits), vec![FILLER; RECORD_BYTES]];
+    for lent in [0, 23, 24, 25, 40] {
+        let good = whole(&machine_m(), 0);
+        let bad = whole(&faulty_limits(rng), 0);
+        let last_bit = whole(&machine_m(), 1);
+        for tape in [good, bad, last_bit] {
+            cases.push(Case::reading(Kind::ReadLimits, &tape.concat()[..lent]));
+        }
+    }
+    cases
+}
+
+/// Records read alone: 9 first, then 2 to 5; every mark of 21 bits passes.
+fn records_read(rng: &mut Rng) -> Vec<Case> {
+    let fits = |block: &Block| unpack_record(&pack_record(block)) == *block;
+    let mut blocks: Vec<Block> = block_ends().into_iter().filter(fits).collect();
+    blocks.extend([u64::MAX].map(|feed| Block { feed, ..plain() }));
+    blocks.extend([u64::MAX].map(|radius| Block { radius, ..plain() }));
+    blocks.extend(path(rng, 8));
+    blocks.extend(faulty_blocks(rng, true));
+    let mut cases: Vec<Case> = blocks
+        .iter()
+        .map(|block| Case::reading(Kind::ReadRecord, &pack_record(block)))
+        .collect();
+    for lent in [0, 15, 16, 17, 32] {
+        for block in
+            std::iter::once(plain()).chain(faulty_blocks(rng, true).into_iter().step_by(DRAWS))
+        {
+            let tape = [pack_record(&block), vec![FILLER; RECORD_BYTES]].concat();
+            cases.push(Case::reading(Kind::ReadRecord, &tape[..lent]));
+        }
+    }
+    cases
+}
+
+/// Limits written: 1 first, then 9; other bytes and a refused part stay.
+fn limits_written(rng: &mut Rng) -> Vec<Case> {
+    let tried = |l: &Limits| Case::writing_limits(l, LIMITS_BYTES + 1);
+    let mut cases: Vec<Case> = limit_ends().iter().map(tried).collect();
+    cases.extend((0..8).map(|_| tried(&limits(rng))));
+    for lent in [0, 23, 24, 25, 30] {
+        cases.push(Case::writing_limits(&machine_m(), lent));
+        cases.push(Case::writing_limits(&faulty_limits(rng), lent));
+    }
+    cases
+}
+
+/// Records written: 2 to 6 first, then 9; other bytes and a refused part stay.
+fn records_written(rng: &mut Rng) -> Vec<Case> {
+    let tried = |block: &Block| Case::writing_record(block, RECORD_BYTES + 1);
+    let mut cases: Vec<Case> = block_ends().iter().map(tried).collect();
+    cases.extend(path(rng, 8).iter().map(tried));
+    cases.extend(faulty_blocks(rng, false).iter().map(tried));
+    for lent in [0, 15, 16, 17, 20] {
+        cases.push(Case::writing_record(&plain(), lent));
+        let faulty = faulty_blocks(rng, false).into_iter().step_by(DRAWS);
+        cases.extend(faulty.map(|block| Case::writing_record(&block, lent)));
+    }
+    cases
+}
+
+/// What a write leaves in the buffer is read back, a refused one's too.
+fn written_then_read(rng: &mut Rng) -> Vec<Case> {
+    let mut cases = Vec::new();
+    for lent in [LIMITS_BYTES - 1, LIMITS_BYTES, LIMITS_BYTES + 1] {
+        cases.push(Case::writing_limits(&limits(rng), lent));
+        cases.push(Case::lending(Kind::ReadLimits, &[], LIMITS_BYTES));
+        cases.push(Case::lending(Kind::Check, &[], LIMITS_BYTES));
+    }
+    for lent in [RECORD_BYTES - 1, RECORD_BYTES, RECORD_BYTES + 1] {
+        cases.push(Case::writing_record(&path(rng, 1)[0], lent));
+        cases.push(Case::lending(Kind::ReadRecord, &[], RECORD_BYTES));
+    }
+    cases
+}
+
+/// A tape of these limits and blocks, unchecked.
+fn tape(limits: Limits, blocks: &[Block]) -> Vec<u8> {
+    let blocks = blocks.to_vec();
+    Tape { limits, blocks }.pack()
+}
+
+/// Tapes of up to two records: every length, limits and records at fault.
+fn short_tapes(rng: &mut Rng) -> Vec<Case> {
+    let good = path(rng, 2);
+    let bad = faulty_block(rng, &[Refusal::Feed.number()], true);
+    let mut last_bit = pack_limits(&machine_m(), 1);
+    last_bit.extend(pack_record(&bad));
+    let tapes = [
+        tape(machine_m(), &good),
+        tape(machine_m(), &[bad, bad]),
+        tape(faulty_limits(rng), &good),
+        tape(faulty_limits(rng), &[bad, bad]),
+        last_bit,
+    ];
+    let mut cases = Vec::new();
+    for tape in tapes {
+        cases.push(Case::lending(
+            Kind::Check,
+            &tape,
+            LIMITS_BYTES + 2 * RECORD_BYTES,
+        ));
+        for lent in [0, 1, 16, 23, 24, 25, 39, 40, 41, 55, 57] {
+            cases.push(Case::lending(Kind::Check, &[], lent));
+        }
+    }
+    cases
+}
+
+/// Each set of refusals at places 1, 2 and 3 of three, alone and with a record
+/// of the next set after it.
+fn faulty_records(rng: &mut Rng) -> Vec<Case> {
+    let good = path(rng, 3);
+    let bad = faulty_blocks(rng, true);
+    let mut cases = Vec::new();
+    for (k, block) in bad.iter().enumerate().step_by(DRAWS) {
+        let other = bad[(k + DRAWS) % bad.len()];
+        for place in 0..good.len() {
+            let mut blocks = good.clone();
+            blocks[place] = *block;
+            cases.push(Case::reading(Kind::Check, &tape(machine_m(), &blocks)));
+            let after = blocks.iter_mut().skip(place + 1);
+            after.for_each(|block| *block = other);
+            cases.push(Case::reading(Kind::Check, &tape(machine_m(), &blocks)));
+        }
+    }
+    cases
+}
+
+/// Tapes about as long as may be: lengths, then faults at the begin and at
+/// the last place. The long tape is stored twice, good and with its last
+/// record at fault.
+fn long_tapes(rng: &mut Rng) -> Vec<Case> {
+    let check = |stored: &[u8], lent| Case::lending(Kind::Check, stored, lent);
+    let over = [MOST_BYTES + 1, MOST_BYTES + RECORD_BYTES, BUFFER_BYTES];
+    let mut blocks = path(rng, MOST_BLOCKS);
+    let bad = faulty_block(rng, &[Refusal::Radius.number()], true);
+    let still = faulty_block(rng, &[Refusal::Still.number()], true);
+    let bad_limits = tape(faulty_limits(rng), &[]);
+    let good_start = tape(machine_m(), &blocks[..2]);
+    let mut cases = vec![check(&tape(machine_m(), &blocks), MOST_BYTES)];
+    cases.extend(over.map(|lent| check(&[], lent)));
+    cases.push(check(&[], MOST_BYTES - 1));
+    cases.push(check(&[], MOST_BYTES - RECORD_BYTES));
+    cases.push(check(&bad_limits, MOST_BYTES));
+    cases.push(check(&[], MOST_BYTES - 1));
+    cases.extend(over.map(|lent| check(&[], lent)));
+    cases.push(check(&tape(machine_m(), &[bad]), MOST_BYTES));
+    cases.push(check(&[], MOST_BYTES - 1));
+    cases.extend(over.map(|lent| check(&[], lent)));
+    cases.push(check(&tape(machine_m(), &[blocks[0], bad]), MOST_BYTES));
+    cases.push(check(&good_start, MOST_BYTES));
+    blocks[MOST_BLOCKS - 1] = still;
+    cases.push(check(&tape(machine_m(), &blocks), MOST_BYTES));
+    cases.push(check(&[], MOST_BYTES - RECORD_BYTES));
+    cases.push(check(&tape(machine_m(), &[bad]), MOST_BYTES));
+    cases.push(check(&tape(machine_m(), &[blocks[0], bad]), MOST_BYTES));
+    cases.push(check(&bad_limits, MOST_BYTES));
+    cases
+}
