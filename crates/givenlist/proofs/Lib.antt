@@ -1,0 +1,2 @@
+-- The laws of a block's line.
+pub mod Lines

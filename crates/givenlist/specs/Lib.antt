@@ -1,0 +1,2 @@
+-- The text of a block given out.
+pub mod Given

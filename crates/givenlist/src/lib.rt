@@ -1,0 +1,32 @@
+// The line of a listing for a block given out: `mark length accel entry peak exit up cruise down`.
+ghost use Rattle.givenlist.specs.Given.{PutGiven, PutRow};
+use line::Given;
+use listing::Put;
+use listing::put_row;
+
+// Stores a row, and says how long it is at most: 21 bytes a number, and one.
+fn put_numbers(out: &mut [u8], at: usize, numbers: &[u64]) -> Put
+    ensures { λ r. ⌜ PutRow (now (out .entry)) at (now (numbers .entry)) r (now (out .exit)) ⌝ }
+{
+    put_row(out, at, numbers)
+}
+
+// Stores the line of a block given out: at most 190 bytes.
+pub fn put_given(out: &mut [u8], at: usize, g: Given) -> Put
+    ensures { λ r. ⌜ PutGiven (now (out .entry)) at g r (now (out .exit)) ⌝ }
+{
+    let b = g.block;
+    let ramp = g.ramp;
+    let numbers = [
+        b.mark,
+        g.length,
+        g.accel,
+        g.entry,
+        ramp.peak,
+        g.exit,
+        ramp.up,
+        ramp.cruise,
+        ramp.down,
+    ];
+    put_numbers(out, at, &numbers)
+}

@@ -1,0 +1,2 @@
+-- The listing of a whole tape.
+pub mod Listing

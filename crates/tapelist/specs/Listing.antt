@@ -1,0 +1,51 @@
+-- Document 01's listing of a whole tape, as bytes. Assumes nothing.
+use mathlib.Core.Path.{_≡_}
+use mathlib.Core.List.{List, [], _∷_, _++_}
+use Prim.Native.Nat.{ℕ, _≤_}
+use lib.ListN.{length, drop}
+use Rattle.profile.specs.Line.{numberAt}
+use Rattle.profile.specs.Passes.{planOf}
+use Rattle.machine.specs.declared.Block.{Block}
+use Rattle.machine.specs.declared.Limits.{Limits}
+use Rattle.line.specs.Answers.{givenOf}
+use Rattle.line.specs.declared.Given.{Given}
+use Rattle.listing.specs.Store.{Stored}
+use Rattle.listing.specs.Text.{header, refusedAt}
+use Rattle.givenlist.specs.Given.{givenText, mostGiven}
+use Rattle.tape.specs.Tape.{tapeBlocks, tapeLimits}
+use Rattle.tape.specs.Display.{byNumber, tapeRefusal, tapePlace}
+use Rattle.tapeplan.specs.Planned.{tapeSteps}
+
+-- a line for each block, in order, with the plan's numbers at its two ends as entry and exit
+unfoldable pub linesOf : Limits → List Block → (plan : List ℕ) → List ℕ
+linesOf l [] plan = []
+linesOf l (b ∷ rest) plan = givenText (givenOf l b (numberAt plan 0) (numberAt plan 1)) ++ linesOf l rest (drop 1 plan)
+
+-- the plan of a whole tape, from rest to rest
+abbrev pub tapePlan : List ℕ → List ℕ
+tapePlan s = planOf 0 (tapeSteps s)
+
+-- what is listed of an accepted tape
+abbrev pub acceptedText : List ℕ → List ℕ
+acceptedText s = header ++ linesOf (tapeLimits s) (tapeBlocks s) (tapePlan s)
+
+-- the listing of any bytes: of an accepted tape, or the refusal's line
+unfoldable pub listingOf : List ℕ → List ℕ
+listingOf s = byNumber (tapeRefusal s) (acceptedText s) (refusedAt (tapeRefusal s) (tapePlace s))
+
+-- bytes of the header, and of the text that is lent: 2,048 lines of at most 190 more
+abbrev pub headerSize : ℕ
+headerSize = 49
+
+abbrev pub textSize : ℕ
+textSize = 389_169
+
+-- an accepted tape with its plan
+pub record Accepted (s plan : List ℕ) : Type 0 where
+  pub passed : tapeRefusal s ≡ 0
+  pub plan-is : plan ≡ tapePlan s
+
+-- the line of a block given out, stored at a place
+pub record StoredGiven (text : List ℕ) (at : ℕ) (g : Given) (end : ℕ) (after : List ℕ) : Type 0 where
+  pub stored : Stored text at (givenText g) end after
+  pub short : length (givenText g) ≤ mostGiven
