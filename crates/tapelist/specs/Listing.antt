@@ -40,6 +40,10 @@ headerSize = 49
 abbrev pub textSize : ℕ
 textSize = 389_169
 
+-- junctions of the longest tape
+abbrev pub mostJunctions : ℕ
+mostJunctions = 2049
+
 -- an accepted tape with its plan
 pub record Accepted (s plan : List ℕ) : Type 0 where
   pub passed : tapeRefusal s ≡ 0

@@ -11,7 +11,7 @@ ghost use Rattle.listing.specs.Store.{Stored};
 ghost use Rattle.tape.specs.Tape.{limitsBytes, recordBytes, tapeBlocks, tapeLimits};
 ghost use Rattle.tape.specs.Display.{mostBytes};
 ghost use Rattle.givenlist.specs.Given.{mostGiven};
-ghost use Rattle.tapelist.specs.Listing.{Accepted, StoredGiven, acceptedText, headerSize, linesOf, listingOf, textSize};
+ghost use Rattle.tapelist.specs.Listing.{Accepted, StoredGiven, acceptedText, headerSize, linesOf, listingOf, mostJunctions, textSize};
 use givenlist::put_given;
 use line::Given;
 use listing::Put;
@@ -128,12 +128,11 @@ fn list_accepted(s: &[u8], plan: &[u64], text: &mut [u8]) -> usize
     }
 }
 
-// The listing of a tape that is not too long.
-fn list_within(s: &[u8], text: &mut [u8]) -> usize
-    requires { ⌜ (length (now text) ≡ textSize) × (length (now s) ≤ mostBytes) ⌝ }
+// The listing of a tape that is not too long; its plan is made in the lent list.
+fn list_planned(s: &[u8], plan: &mut [u64], text: &mut [u8]) -> usize
+    requires { ⌜ (length (now text) ≡ textSize) × (length (now s) ≤ mostBytes) × (length (now plan) ≡ mostJunctions) ⌝ }
     ensures { λ r. ⌜ Stored (now (text .entry)) 0 (listingOf (now (s .entry))) r (now (text .exit)) ⌝ }
 {
-    let mut plan = [0u64; JUNCTIONS];
     let junctions = records_in(s.len()) + 1;
     match plan_tape(s, &mut plan[..junctions]) {
         TapePlanned::Refused(why, place) => put_refusal(text, why, place),
@@ -149,5 +148,6 @@ pub fn list_tape(s: &[u8], text: &mut [u8; TEXT]) -> usize
     if MOST_BYTES < s.len() {
         return put_refusal(text, Refusal::Many, 0);
     }
-    list_within(s, text)
+    let mut plan = [0u64; JUNCTIONS];
+    list_planned(s, &mut plan, text)
 }

@@ -29,16 +29,22 @@ module _ (l : Limits) (s : List ℕ) where
   block-is : (k : ℕ) → k < recordsIn s → getD (tapeBlocks s) k (recordAt s 0) ≡ recordAt s k
   block-is k h = sym (ap (λ (i : ℕ). getD (tapeBlocks s) i (recordAt s 0)) (add-zero k)) ∙ sym (getD-drop k (tapeBlocks s) 0 (recordAt s 0)) ∙ ap (λ (t : List Block). getD t 0 (recordAt s 0)) (drop-blocks s h)
 
-  -- its cap and its reach
+  -- the cap where a block after the first begins, and that of any block by the block before it
+  pub cap-next : (k : ℕ) → suc k < recordsIn s → junctionCap l (recordAt s k) (recordAt s (suc k)) ≡ capAt steps (suc k)
+  cap-next k h =
+      (λ i. junctionCap l (sym (block-is k (omega arith)) i) (sym (block-is (suc k) h) i))
+      ∙ sym (steps-cap (recordAt s 0) l (tapeBlocks s) k (omega (arith, length-blocks s)))
+
   cap-is : (k : ℕ) (before : Block) → k < recordsIn s → (0 < k → before ≡ recordAt s (k - 1)) → pick (eqb k 0) 0 (junctionCap l before (recordAt s k)) ≡ capAt steps k
   cap-is zero before h e = sym (steps-first l (tapeBlocks s))
   cap-is (suc k) before h e =
       let back : suc k - 1 ≡ k = omega arith in
       ap (λ t. pick t 0 (junctionCap l before (recordAt s (suc k)))) (eqb·suc-zero k)
-      ∙ (λ i. junctionCap l ((e (omega arith) ∙ ap (recordAt s) back ∙ sym (block-is k (omega arith))) i) (sym (block-is (suc k) h) i))
-      ∙ sym (steps-cap (recordAt s 0) l (tapeBlocks s) k (omega (arith, length-blocks s)))
+      ∙ ap (λ (b : Block). junctionCap l b (recordAt s (suc k))) (e (omega arith) ∙ ap (recordAt s) back)
+      ∙ cap-next k h
 
-  reach-is : (k : ℕ) → k < recordsIn s → reachOf l (recordAt s k) ≡ reachAt steps k
+  -- its reach
+  pub reach-is : (k : ℕ) → k < recordsIn s → reachOf l (recordAt s k) ≡ reachAt steps k
   reach-is k h = sym (steps-reach (recordAt s 0) l (tapeBlocks s) k (omega (arith, length-blocks s)) ∙ ap (reachOf l) (block-is k h))
 
   -- the first k records have passed, and the lists have their caps and reaches

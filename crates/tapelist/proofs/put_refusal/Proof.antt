@@ -1,42 +1,40 @@
+-- `tapelist::put_refusal`: a refusal's line has room.
+use native.Mathlib.Omega.{arith}
+use Rattle.listing.proofs.Store.{was-stored}
+use Rattle.tapelist.proofs.Stores.{has-room, refusal-short}
 use borrow.Author.Needs.{needs}
 use Rattle.tapelist.proofs.put_refusal.Statement.{statement}
 use Rattle.tapelist.proofs.put_refusal.Tie as tie
-use Rattle.tapelist.proofs.put_refusal.Reads as reads
-use Rattle.tapelist.proofs.put_refusal.Lts as lts
-use Rattle.listing.proofs.put_refused_at.Reads as put-refused-at-reads
-use Rattle.machine.proofs.check.refusal_number.Reads as refusal-number-reads
 
--- src/lib.rt:71:35
 refusal-number-requires : tie.Need-refusal-number-requires
 refusal-number-requires c κs = search needs
 
--- src/lib.rt:71:11
 put-refused-at-requires : tie.Need-put-refused-at-requires
 put-refused-at-requires c κs = search needs
 
--- src/lib.rt:72:17
 enum-known-end : tie.Need-enum-known-end
 enum-known-end c = search needs
 
--- src/lib.rt:73:24
 enum-told : tie.Need-enum-told
 enum-told c = search needs
 
--- src/lib.rt:67:1
 same-length : tie.Need-same-length
 same-length c = search needs
 
--- src/lib.rt:67:1
 returns : tie.Need-returns
-returns c = ?
+returns c =
+    let told = c .before .before .before .before .before in
+    rw (← told .before .refusal-number .ensures) (was-stored (c .before .end .given .1) (told .put-refused-at .ensures) .1)
 
--- src/lib.rt:67:1
 same-length-2 : tie.Need-same-length-2
 same-length-2 c = search needs
 
--- src/lib.rt:67:1
 returns-2 : tie.Need-returns-2
-returns-2 c = ?
+returns-2 c =
+    let told = c .before .before .before .before in
+    let start = told .before .before .before .before in
+    has-room (c .enum-told .given .1) (told .put-refused-at .ensures)
+    (omega (arith, start .pre, refusal-short (told .before .refusal-number .result) (start .args .place) (told .before .refusal-number .ok) (start .fits .place .fits)))
 
 pub put-refusal-spec : {M : Type 1} → statement M
 put-refusal-spec =
