@@ -5,9 +5,7 @@ use Prim.Native.Nat.{ℕ, zero, suc}
 use lib.IntN.{ℤ}
 use Rattle.line.specs.Answers.{Answer}
 use Rattle.line.specs.Blocks.{Call, addAnswer}
-use Rattle.line.specs.Ring.{ringAnswer}
 use Rattle.planner.specs.Calls.{Called, Showed}
-use Rattle.planner.specs.View.{viewOf}
 use Rattle.planner_c.specs.Exports.{answerNumber, movesAfter, numbersAfter, Exported, Lent, Listed}
 
 -- A call by its number,
@@ -22,16 +20,17 @@ exported n c e =
 
 -- with what is lent to it,
 pub lent : {m m′ : List ℕ} {call : Call} {said : Answer} → Called m call said m′ → (moves moves′ : List ℤ) (numbers numbers′ : List ℕ)
-    → moves′ ≡ movesAfter said moves → numbers′ ≡ numbersAfter said numbers → Lent (ringAnswer (viewOf m) call) moves moves′ numbers numbers′
+    → moves′ ≡ movesAfter said moves → numbers′ ≡ numbersAfter said numbers → Lent m call moves moves′ numbers numbers′
 lent c moves moves′ numbers numbers′ e f =
     record {
       moves-are = e ∙ ap (λ (a : Answer). movesAfter a moves) (c .answer);
       numbers-are = f ∙ ap (λ (a : Answer). numbersAfter a numbers) (c .answer);
+      line = λ line h. let said = c .line line h .0 in (e ∙ ap (λ (a : Answer). movesAfter a moves) said, f ∙ ap (λ (a : Answer). numbersAfter a numbers) said);
     }
 
 -- and the plan.
 pub listed : {m held exit : List ℕ} {said : Answer} (n : ℕ) → Showed m held said exit → n ≡ answerNumber said → Listed m held n exit
-listed n s e = record { number-is = e ∙ ap answerNumber (s .answer) ∙ back _; list = s .list }
+listed n s e = record { number-is = e ∙ ap answerNumber (s .answer) ∙ back _; list = s .list; line = s .line }
   where
     back : (n : ℕ) → answerNumber (addAnswer n) ≡ n
     back zero = refl

@@ -1,11 +1,13 @@
 -- What the functions for C return and leave in the lists that they are lent.
 use mathlib.Core.List.{List, [], _∷_}
 use mathlib.Core.Path.{_≡_}
-use Prim.Native.Nat.{ℕ}
+use Prim.Native.Nat.{ℕ, _+_}
 use lib.IntN.{ℤ}
 use lib.ListN.{length}
+use Rattle.profile.specs.Line.{Highest}
+use Rattle.machine.specs.Line.{stepsOf}
 use Rattle.line.specs.Answers.{Answer, accepted, gave, refused}
-use Rattle.line.specs.Blocks.{Call, Line, lineAnswer, lineAfter}
+use Rattle.line.specs.Blocks.{Call, Line, lineAnswer, lineAfter, linePlan}
 use Rattle.line.specs.Holds.{Holds}
 use Rattle.line.specs.Ring.{ringAnswer, ringAfter, showRefusal}
 use Rattle.line.specs.declared.Given.{Given}
@@ -60,12 +62,16 @@ pub record Gave (g : Given) (moves : List ℤ) (numbers : List ℕ) : Type 0 whe
   pub moves-are : moves ≡ movesFor g
   pub numbers-are : numbers ≡ givenNumbers g
 
--- a take with its lent lists
-pub record Lent (answer : Answer) (moves moves′ : List ℤ) (numbers numbers′ : List ℕ) : Type 0 where
-  pub moves-are : moves′ ≡ movesAfter answer moves
-  pub numbers-are : numbers′ ≡ numbersAfter answer numbers
+-- the lists that are lent to a call, by the ring that the memory holds and by every line of blocks that it holds
+pub record Lent (memory : List ℕ) (call : Call) (moves moves′ : List ℤ) (numbers numbers′ : List ℕ) : Type 0 where
+  pub moves-are : moves′ ≡ movesAfter (ringAnswer (viewOf memory) call) moves
+  pub numbers-are : numbers′ ≡ numbersAfter (ringAnswer (viewOf memory) call) numbers
+  pub line : (line : Line) → Holds (viewOf memory) line
+      → (moves′ ≡ movesAfter (lineAnswer line call) moves) × (numbers′ ≡ numbersAfter (lineAnswer line call) numbers)
 
 -- the plan in a lent list
 pub record Listed (memory held : List ℕ) (number : ℕ) (exit : List ℕ) : Type 0 where
   pub number-is : number ≡ showRefusal (viewOf memory) (length held)
   pub list : exit ≡ shownList (showRefusal (viewOf memory) (length held)) (viewOf memory) held
+  pub line : (line : Line) → Holds (viewOf memory) line → length held ≡ length (line .blocks) + 1
+      → (exit ≡ linePlan line) × Highest (line .committed) (stepsOf (line .limits) (line .blocks)) exit

@@ -6,10 +6,9 @@ ghost use lib.ListN.{length};
 ghost use Rattle.machine.specs.Checks.{checkedNumber, refusalNumber};
 ghost use Rattle.line.specs.Answers.{addMeans, showMeans};
 ghost use Rattle.line.specs.Blocks as blocks;
-ghost use Rattle.line.specs.Ring.{ringAnswer};
 ghost use Rattle.planner.specs.Calls.{Freshened, Told};
 ghost use Rattle.planner_c.specs.Exports.{Exported, Gave, Lent, Listed, answerNumber};
-ghost use Rattle.planner.specs.View.{limitsFrom, viewOf};
+ghost use Rattle.planner.specs.View.{limitsFrom};
 use line::AddAnswer;
 use line::Given;
 use line::ShowAnswer;
@@ -145,7 +144,7 @@ pub extern "C" fn fullerecru_take(
     moves: &mut [i64; 3],
     numbers: &mut [u64; 11],
 ) -> u64
-    ensures { λ r. ⌜ Exported (now (memory .entry)) blocks.take r (now (memory .exit)) × Lent (ringAnswer (viewOf (now (memory .entry))) blocks.take) (now (moves .entry)) (now (moves .exit)) (now (numbers .entry)) (now (numbers .exit)) ⌝ }
+    ensures { λ r. ⌜ Exported (now (memory .entry)) blocks.take r (now (memory .exit)) × Lent (now (memory .entry)) blocks.take (now (moves .entry)) (now (moves .exit)) (now (numbers .entry)) (now (numbers .exit)) ⌝ }
 {
     match take(memory) {
         TakeAnswer::Refused(why) => refusal_number(why),
