@@ -1,0 +1,3 @@
+pub mod Displayed
+pub mod FromBytes
+pub mod WholeTapes

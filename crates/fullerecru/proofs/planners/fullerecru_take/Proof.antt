@@ -1,0 +1,51 @@
+-- `fullerecru::planners::fullerecru_take`: the promise of `take`, by its number, with the lent lists. Assumes nothing.
+use mathlib.Core.Path.{sym, ap, _∙_}
+use borrow.Author.Needs.{needs}
+use Rattle.line.specs.Answers.{takeMeans}
+use Rattle.line.specs.declared.TakeAnswer.{TakeAnswer}
+use Rattle.fullerecru.specs.Planners.{answerNumber, movesAfter, numbersAfter}
+use Rattle.fullerecru.proofs.Displayed.{exported, lent}
+use Rattle.fullerecru.proofs.planners.fullerecru_take.Statement.{statement}
+use Rattle.fullerecru.proofs.planners.fullerecru_take.Tie as tie
+
+take-requires : tie.Need-take-requires
+take-requires c κs = search needs
+
+enum-known-why : tie.Need-enum-known-why
+enum-known-why c = search needs
+
+refusal-number-requires : tie.Need-refusal-number-requires
+refusal-number-requires c κs = search needs
+
+enum-known-g : tie.Need-enum-known-g
+enum-known-g c = search needs
+
+hand-out-requires : tie.Need-hand-out-requires
+hand-out-requires c κs = search needs
+
+returns : tie.Need-returns
+returns c =
+    let w = c .before .before in
+    let t = w .before .before in
+    let a = t .before .before .args in
+    let is = sym (w .why .given .1) in (
+      exported (c .refusal-number .result) (t .take .ensures) (c .refusal-number .ensures ∙ ap (λ (x : TakeAnswer). answerNumber (takeMeans x)) is),
+      lent (t .take .ensures) (a .moves .now) _ (a .numbers .now) _ (ap (λ (x : TakeAnswer). movesAfter (takeMeans x) (a .moves .now)) is) (ap (λ (x : TakeAnswer). numbersAfter (takeMeans x) (a .numbers .now)) is),
+    )
+
+returns-2 : tie.Need-returns-2
+returns-2 c =
+    let g = c .before .before .before .before in
+    let t = g .before .before in
+    let a = t .before .before .args in
+    let is = sym (g .g .given .1) in
+    let h = c .hand-out .ensures in (
+      exported 0 (t .take .ensures) (ap (λ (x : TakeAnswer). answerNumber (takeMeans x)) is),
+      lent (t .take .ensures) (a .moves .now) (c .hand-out .last .1 .0) (a .numbers .now) (c .hand-out .last .1 .1 .0)
+          (h .moves-are ∙ ap (λ (x : TakeAnswer). movesAfter (takeMeans x) (a .moves .now)) is)
+          (h .numbers-are ∙ ap (λ (x : TakeAnswer). numbersAfter (takeMeans x) (a .numbers .now)) is),
+    )
+
+pub fullerecru-take-spec : {M : Type 1} → statement M
+fullerecru-take-spec =
+    tie.close (tie.spec take-requires enum-known-why refusal-number-requires enum-known-g hand-out-requires returns returns-2)

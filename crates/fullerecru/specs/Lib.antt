@@ -1,0 +1,4 @@
+-- What the functions for C promise.
+pub mod Planners
+pub mod Tapes
+pub mod Plans

@@ -1,0 +1,33 @@
+-- What the functions for C on whole tapes and traces return and leave in the lists that they are lent.
+use mathlib.Core.List.{List, [], _∷_}
+use mathlib.Core.Path.{_≡_}
+use Prim.Native.Nat.{ℕ, _<_}
+use lib.ListN.{length}
+use Rattle.profile.specs.Line.{Highest}
+use Rattle.profile.specs.Passes.{planOf}
+use Rattle.line.specs.Blocks.{freshLine, lineAfterAll}
+use Rattle.tape.specs.Tape.{limitsAt}
+use Rattle.tape.specs.Display.{byNumber}
+use Rattle.tapeplan.specs.Planned.{tapeSteps, planFault}
+use Rattle.replay.specs.Trace.{traceCalls}
+use Rattle.replay.specs.Replays.{replayRefusal, Demanded, Unchanged}
+
+-- A whole tape planned: the number on the display, the place of the record at fault, and the list, which is the plan
+-- from rest to rest that no lawful profile is above anywhere, or as it was.
+pub record PlanLent (tape : List ℕ) (number : ℕ) (list list′ place′ : List ℕ) : Type 0 where
+  pub number-is : number ≡ planFault tape (length list) .number
+  pub place-is : place′ ≡ planFault tape (length list) .place ∷ []
+  pub list-is : list′ ≡ byNumber (planFault tape (length list) .number) (planOf 0 (tapeSteps tape)) list
+  pub highest : number ≡ 0 → Highest 0 (tapeSteps tape) list′
+
+-- the number of blocks held after a trace
+abbrev pub toldAfter : List ℕ → ℕ
+toldAfter trace = length (lineAfterAll (freshLine (limitsAt trace)) (traceCalls trace) .blocks)
+
+-- A trace run, or refused: the number on the display; demand 3 where it was run, with the number told in its list; all
+-- three lists as they were where it was refused.
+pub record ReplayLent (trace : List ℕ) (number : ℕ) (answers answers′ plan plan′ told told′ : List ℕ) : Type 0 where
+  pub number-is : number ≡ replayRefusal trace (length answers) (length plan)
+  pub told-is : told′ ≡ byNumber number (toldAfter trace ∷ []) told
+  pub run : number ≡ 0 → Demanded (limitsAt trace) (traceCalls trace) (toldAfter trace) answers′ plan plan′
+  pub refused : 0 < number → Unchanged answers plan answers′ plan′

@@ -1,0 +1,42 @@
+-- What the functions for C on limits and records as bytes return and leave in the lists that they are lent.
+use mathlib.Core.List.{List, [], _∷_}
+use mathlib.Core.Path.{_≡_}
+use Prim.Native.Nat.{ℕ}
+use lib.IntN.{ℤ}
+use Rattle.machine.specs.declared.Block.{Block}
+use Rattle.machine.specs.declared.Limits.{Limits}
+use Rattle.planner.specs.View.{limitNumbers}
+use Rattle.tape.specs.Tape.{limitsAt, blockAt}
+use Rattle.tape.specs.Display.{byNumber, limitsReadRefusal, recordReadRefusal}
+
+-- limits as nine numbers
+abbrev pub limitsList : Limits → List ℕ
+limitsList l = limitNumbers l []
+
+-- the moves of a block, µm, and its other numbers
+abbrev pub blockMoves : Block → List ℤ
+blockMoves b = b .x ∷ b .y ∷ b .z ∷ []
+
+abbrev pub blockNumbers : Block → List ℕ
+blockNumbers b = b .feed ∷ b .radius ∷ b .mark ∷ []
+
+-- a block in lent lists
+pub record PutBlock (b : Block) (moves : List ℤ) (numbers : List ℕ) : Type 0 where
+  pub moves-are : moves ≡ blockMoves b
+  pub numbers-are : numbers ≡ blockNumbers b
+
+-- limits read: the list is filled where nothing is refused, else as it was
+pub record LimitsLent (bytes limits : List ℕ) (number : ℕ) (limits′ : List ℕ) : Type 0 where
+  pub number-is : number ≡ limitsReadRefusal bytes
+  pub limits-are : limits′ ≡ byNumber (limitsReadRefusal bytes) (limitsList (limitsAt bytes)) limits
+
+-- a record read, in the same way
+pub record RecordLent (bytes : List ℕ) (number : ℕ) (moves moves′ : List ℤ) (numbers numbers′ : List ℕ) : Type 0 where
+  pub number-is : number ≡ recordReadRefusal bytes
+  pub moves-are : moves′ ≡ byNumber (recordReadRefusal bytes) (blockMoves (blockAt bytes)) moves
+  pub numbers-are : numbers′ ≡ byNumber (recordReadRefusal bytes) (blockNumbers (blockAt bytes)) numbers
+
+-- limits or a record written: the number on the display, and all the lent bytes
+pub record Written (refusal : ℕ) (written : List ℕ) (number : ℕ) (bytes′ : List ℕ) : Type 0 where
+  pub number-is : number ≡ refusal
+  pub bytes-are : bytes′ ≡ written

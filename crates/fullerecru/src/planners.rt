@@ -1,0 +1,137 @@
+// The planner for C, on memory that the caller lends: 780 numbers of 64 bits, whose content is the
+// planner's.
+ghost use mathlib.Core.Path.{_≡_};
+ghost use lib.ListN.{length};
+ghost use Rattle.line.specs.Answers.{addMeans, showMeans};
+ghost use Rattle.line.specs.Blocks as blocks;
+ghost use Rattle.planner.specs.Calls.{Freshened, Told};
+ghost use Rattle.fullerecru.specs.Planners.{Exported, Gave, Lent, Listed, answerNumber};
+ghost use Rattle.planner.specs.View.{limitsFrom};
+use crate::numbers::checked_number;
+use crate::numbers::limits_of;
+use line::AddAnswer;
+use line::Given;
+use line::ShowAnswer;
+use line::TakeAnswer;
+use machine::Block;
+use machine::check::refusal_number;
+use planner::NUMBERS;
+use planner::add;
+use planner::fresh;
+use planner::shown;
+use planner::take;
+use planner::told;
+
+fn added_number(a: AddAnswer) -> u64
+    ensures { λ r. ⌜ r ≡ answerNumber (addMeans a) ⌝ }
+{
+    match a {
+        AddAnswer::Added => 0,
+        AddAnswer::Refused(why) => refusal_number(why),
+    }
+}
+
+fn shown_number(a: ShowAnswer) -> u64
+    ensures { λ r. ⌜ r ≡ answerNumber (showMeans a) ⌝ }
+{
+    match a {
+        ShowAnswer::Shown => 0,
+        ShowAnswer::Refused(why) => refusal_number(why),
+    }
+}
+
+// Stores a block given out in the lent lists.
+fn hand_out(g: Given, moves: &mut [i64], numbers: &mut [u64])
+    requires { ⌜ (length (now moves) ≡ 3) × (length (now numbers) ≡ 11) ⌝ }
+    ensures { λ r. ⌜ Gave g (now (moves .exit)) (now (numbers .exit)) ⌝ }
+{
+    let b = g.block;
+    let ramp = g.ramp;
+    let x = b.x;
+    let y = b.y;
+    let z = b.z;
+    moves[0] = x;
+    moves[1] = y;
+    moves[2] = z;
+    numbers[0] = b.feed;
+    numbers[1] = b.radius;
+    numbers[2] = b.mark;
+    numbers[3] = g.length;
+    numbers[4] = g.accel;
+    numbers[5] = g.entry;
+    numbers[6] = g.exit;
+    numbers[7] = ramp.peak;
+    numbers[8] = ramp.up;
+    numbers[9] = ramp.cruise;
+    numbers[10] = ramp.down;
+}
+
+// Makes a fresh planner of nine limits: accelerations x, y, z, µm/s²; speeds x, y, z, µm/s; corner
+// jump, µm/s; chord tolerance, µm; tick, microseconds. Refuses by 1.
+#[no_mangle]
+pub extern "C" fn fullerecru_fresh(memory: &mut [u64; NUMBERS], limits: &[u64; 9]) -> u64
+    ensures { λ r. ⌜ Freshened (now (memory .entry)) (limitsFrom (now (limits .entry))) r (now (memory .exit)) ⌝ }
+{
+    checked_number(fresh(memory, limits_of(limits)))
+}
+
+// Adds a block: moves, µm; feed, µm/s; radius, µm, 0 for no curve; mark. Refuses by 2 to 7.
+#[no_mangle]
+pub extern "C" fn fullerecru_add(
+    memory: &mut [u64; NUMBERS],
+    x: i64,
+    y: i64,
+    z: i64,
+    feed: u64,
+    radius: u64,
+    mark: u64,
+) -> u64
+    ensures { λ r. ⌜ Exported (now (memory .entry)) (blocks.add (record { x = x; y = y; z = z; feed = feed; radius = radius; mark = mark })) r (now (memory .exit)) ⌝ }
+{
+    let b = Block {
+        x: x,
+        y: y,
+        z: z,
+        feed: feed,
+        radius: radius,
+        mark: mark,
+    };
+    added_number(add(memory, b))
+}
+
+// Gives out the first block: its moves, µm, and feed, radius, mark, length, µm, acceleration, µm/s²,
+// entry, exit and peak, (µm/s)², and the lengths of speeding up, of constant speed and of braking,
+// µm. Refuses by 8.
+#[no_mangle]
+pub extern "C" fn fullerecru_take(
+    memory: &mut [u64; NUMBERS],
+    moves: &mut [i64; 3],
+    numbers: &mut [u64; 11],
+) -> u64
+    ensures { λ r. ⌜ Exported (now (memory .entry)) blocks.take r (now (memory .exit)) × Lent (now (memory .entry)) blocks.take (now (moves .entry)) (now (moves .exit)) (now (numbers .entry)) (now (numbers .exit)) ⌝ }
+{
+    match take(memory) {
+        TakeAnswer::Refused(why) => refusal_number(why),
+        TakeAnswer::Given(g) => {
+            hand_out(g, moves, numbers);
+            0
+        }
+    }
+}
+
+// How many blocks are held.
+#[no_mangle]
+pub extern "C" fn fullerecru_told(memory: &[u64; NUMBERS]) -> u64
+    ensures { λ r. ⌜ Told (now (memory .entry)) r ⌝ }
+{
+    told(memory)
+}
+
+// Shows the plan, (µm/s)² at each junction, in a list of one number more than blocks are held; the
+// list is handed over as a pointer and its length. Refuses by 11.
+#[no_mangle]
+pub extern "C" fn fullerecru_shown(memory: &[u64; NUMBERS], list: &mut [u64]) -> u64
+    ensures { λ r. ⌜ Listed (now (memory .entry)) (now (list .entry)) r (now (list .exit)) ⌝ }
+{
+    shown_number(shown(memory, list))
+}

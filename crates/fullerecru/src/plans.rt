@@ -1,0 +1,65 @@
+// The plan of a whole tape, and the run of a trace, for C. Bytes and lists are handed over as a
+// pointer and their length.
+ghost use mathlib.Core.List.{[], _∷_};
+ghost use mathlib.Core.Path.{_≡_};
+ghost use lib.ListN.{length};
+ghost use Rattle.fullerecru.specs.Plans.{PlanLent, ReplayLent};
+use machine::check::refusal_number;
+use replay::Replayed;
+use replay::replay;
+use tapeplan::TapePlanned;
+use tapeplan::whole::plan_tape;
+
+// Stores the only number of a list.
+fn put_number(list: &mut [u64], n: u64)
+    requires { ⌜ length (now list) ≡ 1 ⌝ }
+    ensures { λ r. ⌜ now (list .exit) ≡ n ∷ [] ⌝ }
+{
+    list[0] = n;
+}
+
+// Plans a whole tape from rest to rest: the list gets the highest lawful profile, one number for each
+// junction, (µm/s)², and is one longer than the tape has records. Refuses by 10, 9, 1, each record in
+// turn by 2 to 6, then by 11, and then the list stays as it was. The place is that of the record at
+// fault, counted from 1, or 0 where no record is at fault.
+#[no_mangle]
+pub extern "C" fn fullerecru_plan_tape(tape: &[u8], list: &mut [u64], place: &mut [u64; 1]) -> u64
+    ensures { λ r. ⌜ PlanLent (now (tape .entry)) r (now (list .entry)) (now (list .exit)) (now (place .exit)) ⌝ }
+{
+    match plan_tape(tape, list) {
+        TapePlanned::Planned => {
+            put_number(place, 0);
+            0
+        }
+        TapePlanned::Refused(why, at) => {
+            put_number(place, at as u64);
+            refusal_number(why)
+        }
+    }
+}
+
+// Runs a trace through a fresh planner: 24 bytes of limits as on tape, then 28 bytes a call, seven
+// words of 32 bits, most significant byte first: kind (0 is a take, any other number an add), moves
+// X, Y, Z by two's complement, µm, feed, µm/s, radius, µm, mark. `answers` gets 15 numbers a call:
+// the number on the display, and of a block given out its moves by two's complement of 32 bits and
+// the numbers of `fullerecru_take`, else zeros. `told` gets the number of blocks held at the end, and
+// the first numbers of `plan`, one more than that, get the plan, (µm/s)². Refuses by 9 (no whole
+// limits, or a cut call), 1, then by 11 where `answers` has not 15 numbers a call or `plan` not 65,
+// and then all three lists stay as they were.
+#[no_mangle]
+pub extern "C" fn fullerecru_replay(
+    trace: &[u8],
+    answers: &mut [u64],
+    plan: &mut [u64],
+    told: &mut [u64; 1],
+) -> u64
+    ensures { λ r. ⌜ ReplayLent (now (trace .entry)) r (now (answers .entry)) (now (answers .exit)) (now (plan .entry)) (now (plan .exit)) (now (told .entry)) (now (told .exit)) ⌝ }
+{
+    match replay(trace, answers, plan) {
+        Replayed::Refused(why) => refusal_number(why),
+        Replayed::Done(held) => {
+            put_number(told, held);
+            0
+        }
+    }
+}

@@ -1,2 +1,0 @@
--- What the functions for C promise.
-pub mod Exports
