@@ -12,7 +12,7 @@ ghost use Rattle.fields.specs.Fields.{withPart, fieldOf, withField, Powe
 ghost use Rattle.fields.specs.Signed.{signedOf, bitsOf};
 
 // 2 to the power k: what a shift by k bits multiplies or divides by.
-pub fn pow2(k: usize) -> u64
+fn pow2(k: usize) -> u64
     requires { ⌜ k < 64 ⌝ }
     ensures { λ r. ⌜ Power k r ⌝ }
 {

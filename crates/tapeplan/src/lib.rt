@@ -1,7 +1,7 @@
 // The plan of a whole tape, from rest to rest, into a lent list of squared speeds, (µm/s)².
-pub mod junctions;
-pub mod passes;
-pub mod survey;
+mod junctions;
+mod passes;
+mod survey;
 pub mod whole;
 
 use machine::Refusal;
