@@ -17,7 +17,7 @@ use planner::NUMBERS;
 const WORD: usize = 32;
 
 // The block that a call's bytes say.
-fn decode_block(bytes: &[u8]) -> Block
+pub fn decode_block(bytes: &[u8]) -> Block
     requires { ⌜ length (now bytes) ≡ callBytes ⌝ }
     ensures { λ r. ⌜ r ≡ blockOf (now (bytes .entry)) ⌝ }
 {

@@ -1,0 +1,3 @@
+-- The laws of the text of calls.
+pub mod Lines
+pub mod Runs

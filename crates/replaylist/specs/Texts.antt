@@ -1,0 +1,35 @@
+-- The text of calls that are run: a line for each answer, and the two closing lines. Assumes nothing.
+use Prim.Native.Nat.{ℕ}
+use mathlib.Core.List.{List, [], _∷_, _++_}
+use Rattle.line.specs.Answers.{Answer, accepted, gave, refused}
+use Rattle.line.specs.declared.Given.{Given}
+use Rattle.listing.specs.Text as text
+
+-- mark, length µm, acceleration µm/s², entry, peak and exit (µm/s)², and the lengths in µm of speeding up, of constant speed and of braking
+abbrev pub givenNumbers : Given → List ℕ
+givenNumbers g =
+    g .block .mark
+    ∷ g .length
+    ∷ g .accel
+    ∷ g .entry
+    ∷ g .ramp .peak
+    ∷ g .exit
+    ∷ g .ramp .up
+    ∷ g .ramp .cruise
+    ∷ g .ramp .down
+    ∷ []
+
+-- the line of an answer
+unfoldable pub answerText : Answer → List ℕ
+answerText accepted = text.added
+answerText (gave g) = text.row (givenNumbers g)
+answerText (refused n) = text.refused n
+
+-- the lines of a list of answers, one behind the other
+unfoldable pub answersText : List Answer → List ℕ
+answersText [] = []
+answersText (a ∷ answers) = answerText a ++ answersText answers
+
+-- the two closing lines: the number of blocks held, and the plan
+abbrev pub closingText : (told : ℕ) (plan : List ℕ) → List ℕ
+closingText told plan = text.held told ++ text.plan plan
