@@ -107,7 +107,7 @@ fn take_call(memory: &mut [u64; NUMBERS], row: &mut [u64])
 }
 
 // Runs the call that 28 bytes say.
-pub fn step(bytes: &[u8], memory: &mut [u64; NUMBERS], row: &mut [u64])
+pub(crate) fn step(bytes: &[u8], memory: &mut [u64; NUMBERS], row: &mut [u64])
     requires { ⌜ (length (now bytes) ≡ callBytes) × (length (now row) ≡ rowSize) ⌝ }
     ensures { λ r. ⌜ Stepped (callOf (now (bytes .entry))) (now (memory .entry)) (now (memory .exit)) (now (row .exit)) ⌝ }
 {
