@@ -6,6 +6,8 @@
 ghost use mathlib.Core.Path.{_≡_};
 ghost use Prim.Native.Nat.{_≤_, _<_};
 ghost use lib.ListN.{length};
+ghost use Rattle.replaylist.specs.Turns.{chunkBytes};
+ghost use Rattle.planreplay.specs.Places.{cutPlace, endCalls};
 use libc::STDIN_FILENO;
 use libc::STDOUT_FILENO;
 use listing::Put;
@@ -20,7 +22,7 @@ use tape::LimitsRead;
 
 // Bytes of a chunk: as many calls as are run at a time.
 const CHUNK: usize = CALL_BYTES * replaylist::CALLS;
-// Reading ends at this many calls, which no input has: a chunk more and the place of a cut call still fit.
+// Reading ends at this many calls, which no input has.
 const MOST_CALLS: u64 = 18_446_744_073_709_551_000;
 
 // Writes the first n bytes of a text.
@@ -50,15 +52,16 @@ fn run_next(chunk: &mut [u8], memory: &mut [u64; NUMBERS], text: &mut [u8; TEXT]
 
 // The same with a chunk of 300 calls.
 fn run_chunk(chunk: &mut [u8; CHUNK], memory: &mut [u64; NUMBERS], text: &mut [u8; TEXT]) -> usize
-    ensures { λ r. ⌜ r ≤ 8400 ⌝ }
+    ensures { λ r. ⌜ r ≤ chunkBytes ⌝ }
 {
     run_next(chunk, memory, text)
 }
 
-// The place from 1 of the call that a last chunk ends inside, behind `calls` calls; 0 where it ends
-// with a whole call.
+// The place from 1 of the call that the bytes of a last chunk, behind `calls` calls, end inside; 0
+// where they end with a whole call.
 fn cut_at(calls: u64, bytes: usize) -> u64
-    requires { ⌜ (calls < 18446744073709551000) × (bytes ≤ 8400) ⌝ }
+    requires { ⌜ (calls < endCalls) × (bytes ≤ chunkBytes) ⌝ }
+    ensures { λ r. ⌜ r ≡ cutPlace calls bytes ⌝ }
 {
     if bytes % CALL_BYTES == 0 {
         return 0;
@@ -75,7 +78,7 @@ fn run_calls(memory: &mut [u64; NUMBERS], text: &mut [u8; TEXT]) -> u64 {
         if got < CHUNK {
             return cut_at(calls, got);
         }
-        calls += 300;
+        calls += replaylist::CALLS as u64;
     }
     0
 }

@@ -1,5 +1,6 @@
 -- `planreplay::run_calls` is safe and ends: the calls that are left to the last number fall.
 use Prim.Native.Nat.{_-_}
+use Rattle.planreplay.specs.Places.{endCalls}
 use borrow.Author.Needs.{needs}
 use Rattle.planreplay.proofs.run_calls.Statement.{statement}
 use Rattle.planreplay.proofs.run_calls.Tie as tie
@@ -8,7 +9,7 @@ abbrev Inv-loop : tie.InvT-loop
 Inv-loop memory₀ text₀ chunk₀ calls₀ memory text chunk calls = Unit {0}
 
 abbrev μ-loop : tie.MeasureT-loop
-μ-loop memory₀ text₀ chunk₀ calls₀ memory text chunk calls = 18446744073709551000 - calls
+μ-loop memory₀ text₀ chunk₀ calls₀ memory text chunk calls = endCalls - calls
 
 loop-holds : tie.Need-loop-holds Inv-loop μ-loop
 loop-holds c = tt
