@@ -1,7 +1,6 @@
 -- Worked examples of the text, which computes: the bytes were written apart from it. Assumes nothing.
 use mathlib.Core.Path.{_≡_, refl}
-use mathlib.Core.List.{List, [], _∷_}
-use Prim.Native.Nat.{ℕ}
+use mathlib.Core.List.{[], _∷_}
 use lib.IntN.{pos}
 use Rattle.line.specs.Answers.{accepted, gave, refused}
 use Rattle.line.specs.declared.Given.{Given}

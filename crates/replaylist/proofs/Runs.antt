@@ -9,13 +9,13 @@ use lib.ListN.{length, take, drop}
 use Rattle.profile.specs.Line.{Highest}
 use Rattle.machine.specs.Line.{stepsOf}
 use Rattle.line.specs.Answers.{Answer}
-use Rattle.line.specs.Blocks.{Call, Line, lineAnswer, lineAfter, lineAnswers, lineAfterAll}
+use Rattle.line.specs.Blocks.{Call, lineAnswer, lineAnswers, lineAfterAll}
 use Rattle.planner.specs.Calls as planner
 use Rattle.replay.specs.Trace.{callBytes, callOf}
 use Rattle.replay.proofs.Runs.{after-more, answers-more}
 use Rattle.listing.specs.Store.{Stored}
 use Rattle.listing.proofs.Store.{stored-next, put-none}
-use Rattle.replaylist.specs.Chunks.{lineBytes, textBytes, callIn, callsFrom}
+use Rattle.replaylist.specs.Chunks.{textBytes, callIn, callsFrom}
 use Rattle.replaylist.specs.Texts.{answerText, answersText, closingText}
 use Rattle.replaylist.specs.Runs.{Wrote, Called, Ran, Ended, Closed}
 use Rattle.replaylist.proofs.Lines.{lines-more}

@@ -1,5 +1,4 @@
 -- What storing the text of calls promises, for every line of blocks that the planner's memory holds.
-use mathlib.Core.Path.{_≡_}
 use mathlib.Core.List.{List}
 use Prim.Native.Nat.{ℕ, _+_, _≤_}
 use lib.ListN.{length}

@@ -1,10 +1,9 @@
 -- `replaylist::run`: before call k those before it have been run, each line behind the one before it. From `ran-none` and `ran-more`.
 use mathlib.Core.Path.{_≡_, subst}
-use mathlib.Core.List.{List}
 use Prim.Native.Nat.{ℕ, _+_, _-_, _*_, _≤_}
 use native.Mathlib.Omega.{arith}
 use lib.ListN.{length}
-use Rattle.replaylist.specs.Chunks.{lineBytes, textBytes, mostCalls, callsFrom, chunkSize}
+use Rattle.replaylist.specs.Chunks.{lineBytes, textBytes, callsFrom, chunkSize}
 use Rattle.replaylist.specs.Runs.{Ran}
 use Rattle.replaylist.proofs.Runs.{ran-none, ran-more}
 use borrow.Author.Needs.{needs}
