@@ -4,8 +4,8 @@
 test:
 	@tests/run
 
-# make expected: the cases of the programs machine_run and tape_run and what these must write for them,
-# made again by the independent implementation.
+# make expected: the cases of the programs machine_run and tape_run and what these and planreplay must
+# write, made again by the independent implementation.
 EXPECT = CARGO_TARGET_DIR=target/reference cargo run --quiet --release --offline \
     --manifest-path tests/reference/Cargo.toml --bin
 
@@ -14,6 +14,7 @@ expected:
 	$(EXPECT) machine_expect -- answers < crates/machine_run/stdin > crates/machine_run/stdout
 	$(EXPECT) tape_expect -- cases > crates/tape_run/stdin
 	$(EXPECT) tape_expect -- answers < crates/tape_run/stdin > crates/tape_run/stdout
+	$(EXPECT) planreplay_ref < crates/planreplay/stdin > crates/planreplay/stdout
 
 fmt:
 	@rt fmt

@@ -12,7 +12,7 @@ use native.Mathlib.Numerals.{add-one}
 use borrow.Author.Tests.{le-leb, lt-leb, leb-true, leb-false}
 use Rattle.listing.specs.declared.Put.{Put}
 use Rattle.listing.specs.declared.Put.the-variants.{At, NoRoom}
-use Rattle.listing.specs.Store.{put, Stored, Answered}
+use Rattle.listing.specs.Store.{put, placeBehind, Stored, Answered}
 
 -- Storing no byte, and one.
 pub put-none : (s : List ℕ) (at : ℕ) → put s at [] ≡ s
@@ -133,6 +133,16 @@ stored s at text h r = record { bytes = rw (le-leb _ _ h) (r .bytes); next = rw 
 
 pub no-room : (s : List ℕ) (at : ℕ) (text : List ℕ) → length s < at + length text → Answered s at text NoRoom s
 no-room s at text h = record { bytes = rw (lt-leb _ _ h); next = rw (lt-leb _ _ h) }
+
+-- A text that has room is stored, and the place behind it answered.
+pub stored-with-room : {s text after : List ℕ} {at end : ℕ} {answer : Put} → at + length text ≤ length s → Answered s at text answer after → end ≡ placeBehind at answer
+    → Stored s at text end after
+stored-with-room {s} {text} {at} h r e =
+    let fits : leb (at + length text) (length s) ≡ true = le-leb _ _ h in
+    record {
+      bytes = r .bytes ∙ ap (λ (b : Bool). cond b (put s at text) s) fits;
+      next = e ∙ ap (placeBehind at) (r .next) ∙ ap (λ (b : Bool). placeBehind at (cond b (At (at + length text)) NoRoom)) fits;
+    }
 
 -- What an answer says: the text stands there, or nothing was stored.
 pub was-stored : {s text after : List ℕ} {at end : ℕ} {answer : Put} → answer ≡ At end → Answered s at text answer after

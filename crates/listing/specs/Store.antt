@@ -17,6 +17,11 @@ pub record Stored (s : List ℕ) (at : ℕ) (text : List ℕ) (end : ℕ) (after
   pub bytes : after ≡ put s at text
   pub next : end ≡ at + length text
 
+-- the place behind a text that was stored from place `at` on, or `at` where there was no room
+abbrev pub placeBehind : (at : ℕ) → Put → ℕ
+placeBehind at (At end) = end
+placeBehind at NoRoom = at
+
 -- where the whole text has room, it is stored and the place behind it answered; else nothing is stored
 pub record Answered (s : List ℕ) (at : ℕ) (text : List ℕ) (answer : Put) (after : List ℕ) : Type 0 where
   pub bytes : after ≡ cond (leb (at + length text) (length s)) (put s at text) s

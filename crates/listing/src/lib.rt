@@ -6,12 +6,22 @@ ghost use Prim.Native.Nat.{_+_, _≤_};
 ghost use lib.Dec.{leb};
 ghost use lib.ListN.{length};
 ghost use Rattle.listing.specs.Text.{decimal, Digits, spaced, line, row, header, refusedWords, refusedAt, refused, added, held, plan};
-ghost use Rattle.listing.specs.Store.{Stored, Answered};
+ghost use Rattle.listing.specs.Store.{Stored, Answered, placeBehind};
 
 // The place behind a text that was stored, or that there was too little room.
 pub enum Put {
     At(usize),
     NoRoom,
+}
+
+// The place behind a text that was stored from place `at` on, or `at` where it had too little room.
+pub fn behind(answer: Put, at: usize) -> usize
+    ensures { λ r. ⌜ r ≡ placeBehind at answer ⌝ }
+{
+    match answer {
+        Put::At(end) => end,
+        Put::NoRoom => at,
+    }
 }
 
 // How many digits n has.

@@ -39,12 +39,12 @@ call-add bytes h e = go (wordOf bytes 0) h ∙ ap add (sym e)
     go (suc n) h = refl
 
 -- The line, and the answers, after one call more.
-after-more : (line : Line) (calls : List Call) (c : Call) → lineAfterAll line (calls ++ c ∷ []) ≡ lineAfter (lineAfterAll line calls) c
+pub after-more : (line : Line) (calls : List Call) (c : Call) → lineAfterAll line (calls ++ c ∷ []) ≡ lineAfter (lineAfterAll line calls) c
 unfolding lineAfterAll
 after-more line [] c = refl
 after-more line (d ∷ calls) c = after-more (lineAfter line d) calls c
 
-answers-more : (line : Line) (calls : List Call) (c : Call) → lineAnswers line (calls ++ c ∷ []) ≡ lineAnswers line calls ++ lineAnswer (lineAfterAll line calls) c ∷ []
+pub answers-more : (line : Line) (calls : List Call) (c : Call) → lineAnswers line (calls ++ c ∷ []) ≡ lineAnswers line calls ++ lineAnswer (lineAfterAll line calls) c ∷ []
 unfolding lineAnswers lineAfterAll
 answers-more line [] c = refl
 answers-more line (d ∷ calls) c = ap (λ (l : List Answer). lineAnswer line d ∷ l) (answers-more (lineAfter line d) calls c)

@@ -17,7 +17,7 @@ use planner::NUMBERS;
 const WORD: usize = 32;
 
 // The block that a call's bytes say.
-fn decode_block(bytes: &[u8]) -> Block
+pub fn decode_block(bytes: &[u8]) -> Block
     requires { ⌜ length (now bytes) ≡ callBytes ⌝ }
     ensures { λ r. ⌜ r ≡ blockOf (now (bytes .entry)) ⌝ }
 {
@@ -107,7 +107,7 @@ fn take_call(memory: &mut [u64; NUMBERS], row: &mut [u64])
 }
 
 // Runs the call that 28 bytes say.
-pub fn step(bytes: &[u8], memory: &mut [u64; NUMBERS], row: &mut [u64])
+pub(crate) fn step(bytes: &[u8], memory: &mut [u64; NUMBERS], row: &mut [u64])
     requires { ⌜ (length (now bytes) ≡ callBytes) × (length (now row) ≡ rowSize) ⌝ }
     ensures { λ r. ⌜ Stepped (callOf (now (bytes .entry))) (now (memory .entry)) (now (memory .exit)) (now (row .exit)) ⌝ }
 {

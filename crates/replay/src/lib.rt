@@ -20,7 +20,7 @@ use tape::LIMITS_BYTES;
 use tape::LimitsRead;
 use tape::limits::read_limits;
 
-mod calls;
+pub mod calls;
 
 // Bytes of a call.
 pub const CALL_BYTES: usize = 28;

@@ -14,7 +14,7 @@ ghost use Rattle.givenlist.specs.Given.{mostGiven};
 ghost use Rattle.tapelist.specs.Listing.{Accepted, StoredGiven, acceptedText, headerSize, linesOf, listingOf, mostJunctions, textSize};
 use givenlist::put_given;
 use line::Given;
-use listing::Put;
+use listing::behind;
 use listing::put_header;
 use listing::put_refused_at;
 use machine::Block;
@@ -68,10 +68,10 @@ fn put_refusal(text: &mut [u8], why: Refusal, place: usize) -> usize
     requires { ⌜ length (now text) ≡ textSize ⌝ }
     ensures { λ r. ⌜ Stored (now (text .entry)) 0 (refusedAt (refusalNumber why) place) r (now (text .exit)) ⌝ }
 {
-    match put_refused_at(text, 0, refusal_number(why), place as u64) {
-        Put::At(end) => end,
-        Put::NoRoom => 0,
-    }
+    behind(
+        put_refused_at(text, 0, refusal_number(why), place as u64),
+        0,
+    )
 }
 
 // Stores the header.
@@ -79,10 +79,7 @@ fn put_head(text: &mut [u8]) -> usize
     requires { ⌜ length (now text) ≡ textSize ⌝ }
     ensures { λ r. ⌜ Stored (now (text .entry)) 0 header r (now (text .exit)) ⌝ }
 {
-    match put_header(text, 0) {
-        Put::At(end) => end,
-        Put::NoRoom => 0,
-    }
+    behind(put_header(text, 0), 0)
 }
 
 // Stores the line of a block given out, where it has room.
@@ -90,10 +87,7 @@ fn store_given(text: &mut [u8], at: usize, g: Given) -> usize
     requires { ⌜ at + mostGiven ≤ length (now text) ⌝ }
     ensures { λ r. ⌜ StoredGiven (now (text .entry)) at g r (now (text .exit)) ⌝ }
 {
-    match put_given(text, at, g) {
-        Put::At(end) => end,
-        Put::NoRoom => 0,
-    }
+    behind(put_given(text, at, g), at)
 }
 
 // Stores the lines of an accepted tape's blocks from its plan.

@@ -1,0 +1,51 @@
+-- `planreplay::run_calls` is safe and ends: the calls that are left to the last number fall.
+use Prim.Native.Nat.{_-_}
+use Rattle.planreplay.specs.Places.{endCalls}
+use borrow.Author.Needs.{needs}
+use Rattle.planreplay.proofs.run_calls.Statement.{statement}
+use Rattle.planreplay.proofs.run_calls.Tie as tie
+
+abbrev Inv-loop : tie.InvT-loop
+Inv-loop memory₀ text₀ chunk₀ calls₀ memory text chunk calls = Unit {0}
+
+abbrev μ-loop : tie.MeasureT-loop
+μ-loop memory₀ text₀ chunk₀ calls₀ memory text chunk calls = endCalls - calls
+
+loop-holds : tie.Need-loop-holds Inv-loop μ-loop
+loop-holds c = tt
+
+run-chunk-requires : tie.Need-run-chunk-requires Inv-loop μ-loop
+run-chunk-requires c κs = search needs
+
+cut-at-requires : tie.Need-cut-at-requires Inv-loop μ-loop
+cut-at-requires c κs = search needs
+
+returns : tie.Need-returns Inv-loop μ-loop
+returns c = tt
+
+add-calls : tie.Need-add-calls Inv-loop μ-loop
+add-calls c = search needs
+
+loop-less : tie.Need-loop-less Inv-loop μ-loop
+loop-less c = search needs
+
+loop-again : tie.Need-loop-again Inv-loop μ-loop
+loop-again c = tt
+
+returns-2 : tie.Need-returns-2 Inv-loop μ-loop
+returns-2 c = tt
+
+pub run-calls-spec : {M : Type 1} → statement M
+run-calls-spec =
+    tie.close
+    (tie.spec
+    Inv-loop
+    μ-loop
+    loop-holds
+    run-chunk-requires
+    cut-at-requires
+    returns
+    add-calls
+    loop-less
+    loop-again
+    returns-2)

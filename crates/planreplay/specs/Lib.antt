@@ -1,0 +1,2 @@
+-- Where a trace that is read chunk by chunk ends.
+pub mod Places

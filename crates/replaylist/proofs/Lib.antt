@@ -1,0 +1,5 @@
+-- The laws of the text of calls.
+pub mod Lines
+pub mod Runs
+pub mod Whole
+mod Cases

@@ -1,0 +1,84 @@
+-- `replaylist::run`: before call k those before it have been run, each line behind the one before it. From `ran-none` and `ran-more`.
+use mathlib.Core.Path.{_≡_, subst}
+use Prim.Native.Nat.{ℕ, _+_, _-_, _*_, _≤_}
+use native.Mathlib.Omega.{arith}
+use lib.ListN.{length}
+use Rattle.replaylist.specs.Chunks.{lineBytes, textBytes, callsFrom, chunkSize}
+use Rattle.replaylist.specs.Runs.{Ran}
+use Rattle.replaylist.proofs.Runs.{ran-none, ran-more}
+use borrow.Author.Needs.{needs}
+use Rattle.replaylist.proofs.run.Statement.{statement}
+use Rattle.replaylist.proofs.run.Tie as tie
+
+abbrev Inv-loop : tie.InvT-loop
+Inv-loop bytes memory₀ text₀ n end₀ k₀ memory text end k = (k ≤ n) × ((n ≡ chunkSize bytes) × ((length text ≡ textBytes) × ((end ≤ lineBytes * k) × Ran (callsFrom bytes 0 k) memory₀ memory text₀ end text)))
+
+abbrev μ-loop : tie.MeasureT-loop
+μ-loop bytes memory₀ text₀ n end₀ k₀ memory text end k = n - k
+
+calls-of-requires : tie.Need-calls-of-requires Inv-loop μ-loop
+calls-of-requires c κs = search needs
+
+loop-holds : tie.Need-loop-holds Inv-loop μ-loop
+loop-holds c = let s = c .before .before .before .args in (search needs, (c .calls-of .ensures, (c .before .before .before .pre, (omega arith, ran-none (s .bytes .now) (s .memory .now) (s .text .now)))))
+
+mul-from : tie.Need-mul-from Inv-loop μ-loop
+mul-from c = search needs
+
+add-to : tie.Need-add-to Inv-loop μ-loop
+add-to c = search needs
+
+sub-run-call : tie.Need-sub-run-call Inv-loop μ-loop
+sub-run-call c = search needs
+
+part-run-call-start : tie.Need-part-run-call-start Inv-loop μ-loop
+part-run-call-start c = search needs
+
+part-run-call-end : tie.Need-part-run-call-end Inv-loop μ-loop
+part-run-call-end c = search needs
+
+run-call-requires : tie.Need-run-call-requires Inv-loop μ-loop
+run-call-requires c κs = search needs
+
+add-k : tie.Need-add-k Inv-loop μ-loop
+add-k c = search needs
+
+loop-less : tie.Need-loop-less Inv-loop μ-loop
+loop-less c = search needs
+
+loop-again : tie.Need-loop-again Inv-loop μ-loop
+loop-again c =
+    let s = c .before .before in
+    let l = s .before .before .before .before .before in
+    let few : s .run-call .result ≤ lineBytes * (l .loop .k + 1) = omega (arith, s .run-call .ensures .few) in
+    (search needs, (l .loop .inv .1 .0, (search needs, (few, ran-more (l .before .before .before .before .args .bytes .now) (l .loop .k) (omega arith) (l .loop .inv .1 .1 .1 .1) (s .run-call .ensures)))))
+
+same-length : tie.Need-same-length Inv-loop μ-loop
+same-length c = search needs
+
+returns : tie.Need-returns Inv-loop μ-loop
+returns c =
+    let l = c .before in
+    let s = l .before .before .before .before .args in
+    let all : l .loop .k ≡ chunkSize (s .bytes .now) = omega arith in
+    subst (λ (n : ℕ). Ran (callsFrom (s .bytes .now) 0 n) (s .memory .now) (l .loop .memory) (s .text .now) (l .loop .end) (l .loop .text)) all (l .loop .inv .1 .1 .1 .1)
+
+pub run-spec : {M : Type 1} → statement M
+run-spec =
+    tie.close
+    (tie.spec
+    Inv-loop
+    μ-loop
+    calls-of-requires
+    loop-holds
+    mul-from
+    add-to
+    sub-run-call
+    part-run-call-start
+    part-run-call-end
+    run-call-requires
+    add-k
+    loop-less
+    loop-again
+    same-length
+    returns)
