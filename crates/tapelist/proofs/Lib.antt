@@ -2,4 +2,4 @@
 pub mod Answers
 pub mod Lines
 pub mod Plans
-pub mod Stores
+pub mod Lengths

@@ -5,7 +5,7 @@ use native.Mathlib.Omega.{arith}
 use Rattle.tape.specs.Display.{limitsAnswer}
 use Rattle.listing.proofs.Store.{stored-next}
 use Rattle.tapelist.proofs.Plans.{limits-read, limits-never}
-use Rattle.tapelist.proofs.Stores.{header-length}
+use Rattle.tapelist.proofs.Lengths.{header-length}
 use borrow.Author.Needs.{needs}
 use Rattle.tapelist.proofs.list_accepted.Statement.{statement}
 use Rattle.tapelist.proofs.list_accepted.Tie as tie
