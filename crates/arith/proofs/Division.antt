@@ -1,11 +1,11 @@
 -- Laws of products and long division in base 2^32, over plain numbers. From the laws of products, quotients and remainders. Assumes nothing.
-use mathlib.Core.Path.{_≡_, refl, sym, ap, subst, _∙_}
+use mathlib.Core.Path.{_≡_, sym, ap, _∙_}
 use Prim.Native.Nat.{ℕ, zero, suc, _+_, _*_, _-_, _/_, _%_, _^_, _≤_, _<_, min}
-use native.Mathlib.Nat.{add-mul, mul-add, mul-comm, mul-assoc, mul-right-comm, mul-mul-mul-comm, mul-le-mul, mul-le-mul-right, mul-lt-mul-of-pos-right, zero-mul, le-refl, le-trans, lt-of-le-of-lt, lt-of-lt-of-le, min-eq-left, min-eq-right, lt-of-not-le, suc-mul, div-add-mod', sub-add-cancel, mod-lt, lt-div-mul-add, div-eq-of-lt-le, div-lt-iff-lt-mul, mul-add-div-right, div-div-eq-div-mul, mul-div-mul-right, div-mul-le-self, lt-of-mul-lt-mul-right}
+use native.Mathlib.Nat.{add-mul, mul-add, mul-assoc, mul-right-comm, mul-mul-mul-comm, mul-le-mul, mul-le-mul-right, mul-lt-mul-of-pos-right, zero-mul, min-eq-left, min-eq-right, lt-of-not-le, suc-mul, div-add-mod', mod-lt, lt-div-mul-add, div-lt-iff-lt-mul, mul-add-div-right, div-div-eq-div-mul, mul-div-mul-right, div-mul-le-self}
 use native.Mathlib.Numerals.{add-one}
 use native.Mathlib.Decide.{decLe}
 use native.Mathlib.Omega.{arith}
-use lib.Pow.{pow-add, pow-pos, shl-lt}
+use lib.Pow.{pow-add, pow-pos}
 use lib.Count.{leadingZeros, leading-top}
 
 -- a product from the products of its factors' halves

@@ -1,7 +1,7 @@
 -- `cappedQuotient cap n d` is the largest number not above the cap whose product with d is not above n. From the laws of division. Assumes nothing.
-use mathlib.Core.Path.{_≡_, sym, _∙_}
+use mathlib.Core.Path.{_≡_}
 use Prim.Native.Nat.{ℕ, zero, suc, _*_, _/_, _≤_, _<_, min}
-use native.Mathlib.Nat.{le-refl, le-antisymm, le-trans, le-min, min-le-left, min-le-right, le-div-iff-mul-le, mul-zero, mul-le-mul-right, min-eq-left}
+use native.Mathlib.Nat.{le-refl, le-antisymm, le-min, min-le-left, min-le-right, le-div-iff-mul-le, mul-zero}
 use native.Mathlib.Omega.{arith}
 use Rattle.arith.specs.Quotient.{cappedQuotient, IsCappedQuotient}
 

@@ -2,7 +2,7 @@
 use mathlib.Core.Path.{_≡_, refl}
 use mathlib.Core.Bool.{Bool, true, false}
 use Prim.Native.Nat.{ℕ, zero, suc, _+_, _*_, _/_, _≤_, _<_}
-use native.Mathlib.Nat.{le-refl, le-antisymm, le-trans, lt-of-le-of-lt, lt-of-lt-of-le, mul-le-mul, lt-mul-div-succ, le-div-iff-mul-le}
+use native.Mathlib.Nat.{le-refl, lt-of-le-of-lt, mul-le-mul, lt-mul-div-succ, le-div-iff-mul-le}
 use native.Mathlib.Omega.{arith}
 use borrow.Author.Tests.{leb-true, leb-false}
 use lib.Dec.{leb}

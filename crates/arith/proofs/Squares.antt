@@ -1,7 +1,7 @@
 -- Laws of squares, from the distributive laws. Assumes nothing.
 use mathlib.Core.Path.{_≡_}
 use Prim.Native.Nat.{ℕ, _+_, _*_, _-_, _≤_, _<_}
-use native.Mathlib.Nat.{add-mul, mul-add, mul-comm, mul-one, one-mul, mul-assoc, mul-le-mul, lt-of-not-le, not-le-of-lt}
+use native.Mathlib.Nat.{add-mul, mul-add, mul-comm, mul-assoc, mul-le-mul, lt-of-not-le, not-le-of-lt}
 use native.Mathlib.Decide.{decLe}
 use native.Mathlib.Omega.{arith}
 

@@ -4,7 +4,7 @@ use Prim.Native.Nat.{ℕ}
 use lib.IntN.{ℤ, pos}
 use Rattle.machine.specs.declared.Block.{Block}
 use Rattle.line.specs.declared.Given.{Given}
-use Rattle.line.specs.Blocks.{Line, add, take, freshLine, lineAfter}
+use Rattle.line.specs.Blocks.{Line, add, freshLine, lineAfter}
 use Rattle.cases.specs.Shop.{machineM}
 
 -- a block of feed 20,000 µm/s along X and Y

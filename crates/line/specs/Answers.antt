@@ -1,5 +1,4 @@
 -- What is answered, as document 01's numbers and values.
-use mathlib.Core.List.{List}
 use Prim.Native.Nat.{ℕ}
 use Rattle.machine.specs.Checks.{refusalNumber}
 use Rattle.machine.specs.Numbers.{numbersOf, rampOf}

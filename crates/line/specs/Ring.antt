@@ -1,21 +1,20 @@
 -- The ring of 64 places that holds a line, number by number as it stands in memory, and what a call answers and leaves there.
 -- Every content of the memory has an answer; what is read is cut to the size that the arithmetic takes.
 use mathlib.Core.List.{List, [], _∷_}
-use mathlib.Core.Bool.{Bool, true, false, cond, _&&_}
+use mathlib.Core.Bool.{true, false, cond}
 use Prim.Native.Nat.{ℕ, zero, suc, _+_, _-_, _*_, _%_, _^_, min}
-use lib.Dec.{leb, ltb, eqb}
+use lib.Dec.{eqb}
 use lib.ListN.{getD, set}
 use Rattle.fields.specs.Signed.{signedOf, bitsOf}
 use Rattle.profile.specs.Passes.{brakeFrom, exitFrom}
-use Rattle.machine.specs.Checks.{blockRefusal, pick}
+use Rattle.machine.specs.Checks.{pick}
 use Rattle.machine.specs.Numbers.{numbersOf, rampOf, rampable, noRamp, turnFrom, cornerFrom, underCorner}
 use Rattle.machine.specs.declared.Axes.{Axes}
 use Rattle.machine.specs.declared.Limits.{Limits}
 use Rattle.machine.specs.declared.Block.{Block}
 use Rattle.machine.specs.declared.Numbers.{Numbers}
-use Rattle.machine.specs.declared.Ramp.{Ramp}
 use Rattle.line.specs.declared.Given.{Given}
-use Rattle.line.specs.Answers.{Answer, accepted, gave, refused}
+use Rattle.line.specs.Answers.{Answer, gave, refused}
 use Rattle.line.specs.Blocks.{mostHeld, Call, add, take, addRefusal, addAnswer}
 
 -- one place: a block, its numbers, the cap of the junction where it begins, and the greatest squared speed at its end

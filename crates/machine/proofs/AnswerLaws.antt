@@ -3,7 +3,7 @@ use mathlib.Core.Path.{_≡_, refl, sym, ap, _∙_}
 use Prim.Native.Nat.{ℕ, zero, suc, _<_}
 use native.Mathlib.Omega.{arith}
 use Rattle.machine.specs.Checks.{refusalNumber, checkedNumber}
-use Rattle.machine.specs.Answers.{Outcome, accepted, refused, firstOf, orRefused}
+use Rattle.machine.specs.Answers.{accepted, refused, firstOf, orRefused}
 use Rattle.machine.specs.declared.Refusal.{Refusal}
 use Rattle.machine.specs.declared.Refusal.the-variants as why
 use Rattle.machine.specs.declared.Checked.{Checked}

@@ -1,10 +1,9 @@
 -- The products of two blocks' moves and their sum, as the code works them out. From arith's laws of signed numbers. Assumes nothing.
-use mathlib.Core.Path.{_≡_, refl, sym, ap, _∙_}
+use mathlib.Core.Path.{_≡_, refl}
 use Prim.Native.Nat.{ℕ, zero, suc, _+_, _-_, _*_, _^_, _≤_, _<_}
-use native.Mathlib.Nat.{mul-le-mul, lt-of-le-of-lt}
+use native.Mathlib.Nat.{mul-le-mul}
 use native.Mathlib.Omega.{arith}
 use lib.IntN.{ℤ, pos, natAbs, _+ℤ_, _*ℤ_}
-use Rattle.arith.specs.Signed.{gapOf}
 use Rattle.arith.specs.Quotient.{cappedQuotient}
 use Rattle.arith.proofs.QuotientLaws.{quotient-positive}
 use Rattle.machine.specs.Checks.{movesOf}

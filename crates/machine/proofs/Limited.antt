@@ -1,10 +1,8 @@
 -- The largest number that each axis allows. From arith's laws of the capped quotient. Assumes nothing.
-use mathlib.Core.Path.{_≡_, sym, ap, _∙_}
-use Prim.Native.Nat.{ℕ, zero, suc, _+_, _*_, _/_, _^_, _≤_, _<_, min}
-use native.Mathlib.Nat.{le-trans, mul-le-mul-right, mul-zero, min-eq-right, le-of-lt, div-lt-iff-lt-mul, eq-zero-or-pos}
+use mathlib.Core.Path.{_≡_, sym, _∙_}
+use Prim.Native.Nat.{ℕ, zero, suc, _*_, _/_, _≤_, _<_}
+use native.Mathlib.Nat.{le-trans, mul-zero, min-eq-right, le-of-lt, div-lt-iff-lt-mul}
 use native.Mathlib.Omega.{arith}
-use mathlib.Core.Logic.{⊎-elim}
-use Rattle.arith.specs.Quotient.{cappedQuotient, IsCappedQuotient}
 use Rattle.arith.proofs.QuotientLaws.{quotient-is, quotient-cap, quotient-positive}
 use Rattle.machine.specs.Numbers.{unit, axisLimit, eachAxis}
 use Rattle.machine.specs.declared.Axes.{Axes}

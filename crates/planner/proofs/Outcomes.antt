@@ -8,15 +8,14 @@ use native.Mathlib.Omega.{arith}
 use lib.Dec.{lit<, leb}
 use lib.ListN.{length}
 use Rattle.machine.specs.Answers.{firstOf}
-use Rattle.machine.specs.Checks.{refusalNumber, limitsRefusal, blockRefusal, pick}
+use Rattle.machine.specs.Checks.{limitsRefusal, blockRefusal, pick}
 use Rattle.machine.specs.declared.Block.{Block}
 use Rattle.machine.specs.declared.Limits.{Limits}
-use Rattle.machine.specs.declared.Refusal.{Refusal}
 use Rattle.machine.specs.declared.Refusal.the-variants as why
 use Rattle.line.specs.declared.Given.{Given}
 use Rattle.line.specs.Answers.{Answer, accepted, gave, refused}
 use Rattle.line.specs.Blocks.{mostHeld, Call, add, take, addRefusal, addAnswer}
-use Rattle.line.specs.Ring.{Ring, putLast, addedIn, givenIn, takenFrom, takenAnswer, takenIn, ringAnswer, ringAfter, toldOf, shownIn, showRefusal}
+use Rattle.line.specs.Ring.{putLast, addedIn, givenIn, takenFrom, takenAnswer, takenIn, ringAnswer, ringAfter, toldOf, shownIn, showRefusal}
 use Rattle.line.proofs.Demand.{holds-fresh, holds-call}
 use Rattle.line.proofs.Shows.{holds-told, holds-shown, holds-highest}
 use Rattle.planner.specs.View.{memorySize, viewOf}

@@ -5,7 +5,6 @@ use native.Mathlib.Omega.{arith}
 use mathlib.Core.List.{List}
 use mathlib.Core.Bool.{Bool, true, false}
 use borrow.Author.Tests.{lt-ltb, le-ltb}
-use lib.Dec.{lit<}
 use lib.ListN.{length}
 use Rattle.machine.proofs.AnswerLaws.{refusal-above}
 use Rattle.machine.specs.Checks.{pick, refusalNumber, checkedNumber}

@@ -1,5 +1,5 @@
 -- The lines of a tape's blocks, stored one behind the other. From the laws of texts stored. Assumes nothing.
-use mathlib.Core.Path.{_≡_, refl, sym, ap, _∙_}
+use mathlib.Core.Path.{_≡_, sym, ap, _∙_}
 use mathlib.Core.List.{List, [], _++_}
 use Prim.Native.Nat.{ℕ, _+_, _*_, _≤_, _<_}
 use native.Mathlib.Nat.{add-zero}
@@ -8,7 +8,6 @@ use lib.ListN.{length, drop, length-append}
 use lib.Seq.{getD-drop, drop-drop, drop-length}
 use Rattle.profile.specs.Line.{numberAt}
 use Rattle.machine.specs.declared.Block.{Block}
-use Rattle.machine.specs.declared.Limits.{Limits}
 use Rattle.line.specs.Answers.{givenOf}
 use Rattle.line.specs.declared.Given.{Given}
 use Rattle.listing.specs.Store.{put, Stored}

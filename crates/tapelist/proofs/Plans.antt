@@ -1,18 +1,18 @@
 -- An accepted tape and its plan: two neighbours of the plan are within the cap and the reach of the block between them. From the
 -- laws of lawful profiles, of steps and of a tape's faults. Assumes nothing.
 use mathlib.Core.Bool.{cond}
-use mathlib.Core.Path.{_≡_, refl, sym, ap, _∙_}
+use mathlib.Core.Path.{_≡_, ap, _∙_}
 use mathlib.Core.List.{List}
 use Prim.Native.Nat.{ℕ, zero, suc, _+_, _≤_, _<_, zero-le}
 use native.Mathlib.Decide.{decLt}
 use native.Mathlib.Numerals.{add-one}
 use native.Mathlib.Omega.{arith}
 use lib.ListN.{length}
-use Rattle.profile.specs.Line.{Step, Lawful, reachAt, numberAt}
+use Rattle.profile.specs.Line.{Lawful, numberAt}
 use Rattle.profile.proofs.Highest.{plan-lawful}
 use Rattle.profile.proofs.Plan.{plan-length}
 use Rattle.machine.specs.Checks.{blockRefusal}
-use Rattle.machine.specs.Numbers.{LimitsBelow, Rampable, blockCap, numbersOf, noRamp, rampOf, rampable, reachOf}
+use Rattle.machine.specs.Numbers.{LimitsBelow, Rampable, blockCap, numbersOf, noRamp, rampOf, rampable}
 use Rattle.machine.specs.declared.Block.{Block}
 use Rattle.machine.specs.declared.Limits.{Limits}
 use Rattle.machine.specs.declared.Numbers.{Numbers}
@@ -31,7 +31,7 @@ use Rattle.tape.proofs.Checks.{head-passed, head-records, limits-faultless, lim
 use Rattle.tape.proofs.Faults.{length-blocks, tape-passed}
 use Rattle.tapeplan.specs.Planned.{tapeSteps}
 use Rattle.tapeplan.proofs.Surveys.{cap-next, reach-is}
-use Rattle.tapelist.specs.Listing.{Accepted, tapePlan}
+use Rattle.tapelist.specs.Listing.{Accepted}
 
 -- a block between two speeds that a ramp exists for
 pub ramped-is : (l : Limits) (b : Block) (entry exit : ℕ) {n : Numbers} {ramp : Ramp} → Rampable (numbersOf l b) entry exit → n ≡ numbersOf l b

@@ -1,5 +1,5 @@
 -- What planning a whole tape answers, from its faults. From the laws of a tape's answers and faults. Assumes nothing.
-use mathlib.Core.Path.{_≡_, refl, sym, ap, _∙_}
+use mathlib.Core.Path.{_≡_, sym, ap, _∙_}
 use mathlib.Core.List.{List}
 use Prim.Native.Nat.{ℕ, _+_, _<_, zero-le}
 use native.Mathlib.Omega.{arith}
@@ -12,7 +12,7 @@ use Rattle.machine.specs.Checks.{pick, refusalNumber}
 use Rattle.machine.specs.declared.Refusal.{Refusal}
 use Rattle.machine.specs.declared.Refusal.the-variants as why
 use Rattle.tape.specs.Tape.{recordsIn}
-use Rattle.tape.specs.Display.{Fault, byNumber, _at_, tapeFault}
+use Rattle.tape.specs.Display.{Fault, _at_, tapeFault}
 use Rattle.machine.proofs.AnswerLaws.{refusal-above}
 use Rattle.tape.proofs.Answers.{at-zero, above-zero}
 use Rattle.tapeplan.specs.Planned.{tapeSteps, planFault, PlannedTape}

@@ -1,11 +1,11 @@
 -- How many blocks a lent line has, and the cap and reach of each. Assumes nothing.
 use mathlib.Core.Path.{_≡_, refl, ap}
 use mathlib.Core.List.{List, [], _∷_}
-use Prim.Native.Nat.{ℕ, zero, suc, _+_, _<_}
+use Prim.Native.Nat.{ℕ, zero, suc, _<_}
 use native.Mathlib.Omega.{arith}
 use native.Mathlib.Nat.{not-suc-le-zero, le-of-suc-le-suc}
-use lib.ListN.{length, getD}
-use Rattle.profile.specs.Line.{Step, capAt, reachAt, numberAt}
+use lib.ListN.{length}
+use Rattle.profile.specs.Line.{capAt, reachAt, numberAt}
 use Rattle.tapeplan.specs.Lent.{lineOf}
 
 -- the number of blocks

@@ -1,12 +1,11 @@
 -- The survey of a tape's records, one after the other. From the laws of filled lists, of steps and of a tape's faults. Assumes nothing.
-use mathlib.Core.Path.{_≡_, refl, sym, ap, _∙_}
+use mathlib.Core.Path.{_≡_, sym, ap, _∙_}
 use mathlib.Core.List.{List}
 use Prim.Native.Nat.{ℕ, zero, suc, _+_, _-_, _≤_, _<_}
 use native.Mathlib.Nat.{add-zero}
-use native.Mathlib.Numerals.{add-one}
 use native.Mathlib.Omega.{arith}
 use lib.Dec.{eqb, eqb·suc-zero}
-use lib.ListN.{length, getD, drop, take, set}
+use lib.ListN.{length, getD, take, set}
 use lib.Seq.{getD-drop}
 use Rattle.profile.specs.Line.{Step, capAt, reachAt}
 use Rattle.machine.specs.Checks.{pick, blockRefusal}

@@ -4,7 +4,7 @@ use mathlib.Core.List.{List, [], _∷_}
 use Prim.Native.Nat.{ℕ, _+_}
 use lib.ListN.{length}
 use Rattle.profile.specs.Line.{Step, numberAt}
-use Rattle.profile.specs.Passes.{planOf, Braked}
+use Rattle.profile.specs.Passes.{Braked}
 
 -- the line whose blocks have these caps where they begin, and these reaches
 unfoldable pub lineOf : List ℕ → List ℕ → List Step

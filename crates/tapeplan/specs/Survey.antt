@@ -6,7 +6,7 @@ use lib.ListN.{take}
 use Rattle.machine.specs.Line.{stepsOf}
 use Rattle.machine.specs.declared.Limits.{Limits}
 use Rattle.tape.specs.Tape.{recordsIn, tapeBlocks}
-use Rattle.tape.specs.Display.{Fault, faultFrom, tapeAnswer, checkRecords}
+use Rattle.tape.specs.Display.{faultFrom, tapeAnswer, checkRecords}
 use Rattle.tape.specs.declared.TapeCheck.{TapeCheck}
 use Rattle.tapeplan.specs.Lent.{lineOf}
 

@@ -11,7 +11,7 @@ use Rattle.tape.specs.Tape.{recordsIn}
 use Rattle.tape.proofs.Faults.{part-record}
 use Rattle.tapelist.specs.Listing.{Accepted}
 use Rattle.tapelist.proofs.Lines.{Storing, storing-next, storing-all}
-use Rattle.tapelist.proofs.Plans.{accepted-limits, accepted-least, accepted-records, accepted-block, accepted-junctions, accepted-ramps}
+use Rattle.tapelist.proofs.Plans.{accepted-limits, accepted-records, accepted-block, accepted-junctions, accepted-ramps}
 use borrow.Author.Needs.{needs}
 use Rattle.tapelist.proofs.put_lines.Statement.{statement}
 use Rattle.tapelist.proofs.put_lines.Tie as tie

@@ -1,6 +1,6 @@
 -- `arith::quotient::capped_quotient` meets its contract: a quotient of 2^64 or more passes every cap; a smaller one is worked out. Assumes nothing.
-use mathlib.Core.Path.{_≡_, sym, ap, _∙_}
-use Prim.Native.Nat.{ℕ, _*_, _+_, _/_, _^_, min}
+use mathlib.Core.Path.{sym, ap, _∙_}
+use Prim.Native.Nat.{ℕ, _*_, _/_, _^_, min}
 use borrow.Author.Needs.{needs}
 use native.Mathlib.Nat.{mul-le-mul}
 use native.Mathlib.Omega.{arith}

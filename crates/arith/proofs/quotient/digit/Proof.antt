@@ -1,6 +1,6 @@
 -- `arith::quotient::digit` meets its contract. The invariant: q is a digit that is not too small, and its product with d's leading half is within `high`. The measure is q. Assumes nothing.
 use mathlib.Core.Path.{sym}
-use Prim.Native.Nat.{ℕ, _+_, _-_, _*_, _/_, _%_, _^_, _≤_, _<_}
+use Prim.Native.Nat.{_+_, _-_, _*_, _/_, _%_, _^_, _≤_, _<_}
 use native.Mathlib.Nat.{min-le-left, le-div-iff-mul-le, div-eq-of-lt-le}
 use native.Mathlib.Omega.{arith}
 use Rattle.arith.proofs.Division.{twoDigits, half-product, first-try, digit-fits, digit-surely-fits, digit-too-large}

@@ -2,9 +2,9 @@
 use mathlib.Core.Path.{_≡_, refl, _∙_}
 use Prim.Native.Nat.{ℕ, _+_, _*_, _/_, _%_, _^_, _-_, _<_}
 use borrow.Author.Needs.{needs}
-use native.Mathlib.Nat.{mod-lt, mul-le-mul-right}
+use native.Mathlib.Nat.{mod-lt}
 use native.Mathlib.Omega.{arith}
-use Rattle.arith.proofs.Division.{twoDigits, Scaled, scaled, digit-below, digits-join}
+use Rattle.arith.proofs.Division.{Scaled, scaled, digit-below, digits-join}
 use Rattle.arith.proofs.quotient.quotient.Statement.{statement}
 use Rattle.arith.proofs.quotient.quotient.Tie as tie
 

@@ -1,5 +1,5 @@
 -- `arith::quotient::remainder` meets its contract: the difference modulo 2^64 is the difference, which is below d. Assumes nothing.
-use Prim.Native.Nat.{_*_, _/_, _%_, _^_, _≤_, _<_, _-_}
+use Prim.Native.Nat.{_*_, _/_, _%_, _^_, _≤_, _-_}
 use borrow.Author.Needs.{needs}
 use native.Mathlib.Omega.{arith}
 use Rattle.arith.proofs.Division.{half-product, digit-below, lead-within, remainder-wraps}

@@ -1,5 +1,5 @@
 -- `arith::signed::plus` meets its contract: the sum fits by its magnitude. Assumes nothing.
-use mathlib.Core.Path.{_≡_, ap, _∙_}
+use mathlib.Core.Path.{_≡_, _∙_}
 use native.Mathlib.Nat.{lt-of-le-of-lt}
 use lib.IntN.{_+ℤ_}
 use mir.Syntax.{w64}

@@ -1,6 +1,5 @@
 -- `arith::whole::pow2` meets its contract: one shifted left by fewer than 64 places is that power, which fits. Assumes nothing.
 use borrow.Author.Needs.{needs}
-use mathlib.Core.Path.{_≡_, _∙_}
 use native.Mathlib.Nat.{one-mul, mod-eq-of-lt}
 use lib.Pow.{pow-lt}
 use Rattle.arith.proofs.whole.pow2.Statement.{statement}

@@ -1,8 +1,6 @@
 -- `machine::check::check_block` meets its contract: each return stands after the tests that decide it, in the definition's order. Assumes nothing.
-use mathlib.Core.Path.{_≡_, sym, ap, _∙_}
-use mathlib.Core.Bool.{not}
 use borrow.Author.Needs.{needs}
-use borrow.Author.Tests.{eq-eqb, ne-eqb, lt-ltb, le-ltb, not-true, not-false}
+use borrow.Author.Tests.{eq-eqb, ne-eqb, lt-ltb, le-ltb}
 use Rattle.machine.specs.Checks.{blockRefusal}
 use Rattle.machine.proofs.check.check_block.Statement.{statement}
 use Rattle.machine.proofs.check.check_block.Tie as tie

@@ -1,6 +1,6 @@
 -- `machine::check::check_limits` meets its contract: the tests together are the definition's. Assumes nothing.
 use mathlib.Core.Path.{_≡_, sym, ap, _∙_}
-use mathlib.Core.Bool.{Bool, true, false, _&&_}
+use mathlib.Core.Bool.{Bool, _&&_}
 use borrow.Author.Needs.{needs}
 use Rattle.machine.specs.Checks.{limitsRefusal, limitsWithin, pick}
 use Rattle.machine.proofs.check.check_limits.Statement.{statement}

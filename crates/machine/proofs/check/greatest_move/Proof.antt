@@ -1,6 +1,6 @@
 -- `machine::check::greatest_move` meets its contract, from the moves. Assumes nothing.
-use mathlib.Core.Path.{_≡_, ap, _∙_}
-use Prim.Native.Nat.{ℕ, max}
+use mathlib.Core.Path.{ap, _∙_}
+use Prim.Native.Nat.{max}
 use borrow.Author.Needs.{needs}
 use Rattle.machine.specs.Checks.{greatestMove}
 use Rattle.machine.specs.declared.Axes.{Axes}

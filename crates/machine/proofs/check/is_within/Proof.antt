@@ -1,7 +1,4 @@
 -- `machine::check::is_within` meets its contract, by the two tests. Assumes nothing.
-use mathlib.Core.Path.{sym, ap}
-use mathlib.Core.Bool.{Bool, _&&_}
-use lib.Dec.{leb}
 use borrow.Author.Tests.{le-leb, lt-leb}
 use Rattle.machine.proofs.check.is_within.Statement.{statement}
 use Rattle.machine.proofs.check.is_within.Tie as tie

@@ -1,12 +1,12 @@
 -- `machine::corner::turn` meets its contract, from the gap. Assumes nothing.
-use mathlib.Core.Path.{_≡_, ap, _∙_}
-use Prim.Native.Nat.{ℕ, _*_, _^_, _<_}
+use mathlib.Core.Path.{ap, _∙_}
+use Prim.Native.Nat.{_*_, _^_, _<_}
 use borrow.Author.Needs.{needs}
 use native.Mathlib.Omega.{arith}
 use lib.IntN.{ℤ, pos, natAbs, _*ℤ_}
 use Rattle.arith.specs.Signed.{gapOf}
 use Rattle.arith.proofs.SignedLaws.{small-back, times-back}
-use Rattle.machine.specs.Numbers.{unit, dotOf, turnFrom}
+use Rattle.machine.specs.Numbers.{unit, turnFrom}
 use Rattle.machine.proofs.Dots.{dot-below, scaled-dot-below}
 use Rattle.machine.proofs.corner.turn.Statement.{statement}
 use Rattle.machine.proofs.corner.turn.Tie as tie

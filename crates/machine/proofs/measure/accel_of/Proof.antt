@@ -1,5 +1,5 @@
 -- `machine::measure::accel_of` meets its contract: the product fits. Assumes nothing.
-use mathlib.Core.Path.{_≡_, ap, _∙_}
+use mathlib.Core.Path.{ap, _∙_}
 use Prim.Native.Nat.{ℕ, _*_, _/_, _≤_, max}
 use borrow.Author.Needs.{needs}
 use native.Mathlib.Omega.{arith}

@@ -1,7 +1,6 @@
 -- `machine::measure::each_axis` meets its contract, axis by axis. Assumes nothing.
-use mathlib.Core.Path.{_≡_, ap, _∙_}
-use Prim.Native.Nat.{ℕ, _≤_, _^_, _<_}
-use borrow.Author.Needs.{needs}
+use mathlib.Core.Path.{ap, _∙_}
+use Prim.Native.Nat.{ℕ, _^_, _<_}
 use native.Mathlib.Omega.{arith}
 use Rattle.machine.specs.Numbers.{axisLimit, eachAxis}
 use Rattle.machine.proofs.Limited.{axis-below}

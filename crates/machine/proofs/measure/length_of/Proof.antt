@@ -1,5 +1,4 @@
 -- `machine::measure::length_of` meets its contract: the sum of squares fits. Assumes nothing.
-use mathlib.Core.Path.{_≡_}
 use Prim.Native.Nat.{_*_, _^_, _<_}
 use borrow.Author.Needs.{needs}
 use native.Mathlib.Omega.{arith}

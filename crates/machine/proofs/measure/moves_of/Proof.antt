@@ -1,9 +1,8 @@
 -- `machine::measure::moves_of` meets its contract, from the magnitudes. Assumes nothing.
-use mathlib.Core.Path.{_≡_, ap, _∙_}
+use mathlib.Core.Path.{ap, _∙_}
 use borrow.Author.Needs.{needs}
 use lib.IntN.{natAbs}
 use Rattle.arith.proofs.SignedLaws.{field-back}
-use Rattle.machine.specs.declared.Axes.{Axes}
 use Rattle.machine.proofs.measure.moves_of.Statement.{statement}
 use Rattle.machine.proofs.measure.moves_of.Tie as tie
 

@@ -1,15 +1,12 @@
 -- `machine::measure::numbers` meets its contract, from what its parts ensure and how large they are. Assumes nothing.
-use mathlib.Core.Path.{_≡_, sym, ap, _∙_}
-use Prim.Native.Nat.{ℕ, _*_, _/_, _^_, _-_, _≤_, _<_, max}
+use mathlib.Core.Path.{ap, _∙_}
+use Prim.Native.Nat.{_*_, _/_, _^_, _-_, _≤_, _<_, max}
 use borrow.Author.Needs.{needs}
-use native.Mathlib.Nat.{mul-le-mul}
 use native.Mathlib.Omega.{arith}
 use lib.Dec.{lit<}
 use Rattle.arith.proofs.Division.{half-product}
 use Rattle.machine.specs.Ranges.{mostAccel, mostFeed}
-use Rattle.machine.specs.Checks.{movesOf}
 use Rattle.machine.specs.Numbers.{AxesBelow, unit, lengthFrom, eachAxis, torquePercent, speedOf, axisAccel, accelOf, reachFrom, blockCapFrom, numbersOf}
-use Rattle.machine.specs.declared.Axes.{Axes}
 use Rattle.machine.proofs.Bounds.{in-range, moves-below, length-below}
 use Rattle.machine.proofs.Limited.{each-below}
 use Rattle.machine.proofs.measure.numbers.Statement.{statement}

@@ -1,5 +1,5 @@
 -- `machine::measure::torque_percent` meets its contract: the table is the definition's list. Assumes nothing.
-use mathlib.Core.Path.{_≡_, ap, _∙_}
+use mathlib.Core.Path.{ap, _∙_}
 use Prim.Native.Nat.{ℕ, _/_}
 use borrow.Author.Needs.{needs}
 use lib.ListN.{getD}

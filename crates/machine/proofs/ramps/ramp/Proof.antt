@@ -1,8 +1,7 @@
 -- `machine::ramps::ramp` meets its contract: the peak is neither below the entry nor below the exit. Assumes nothing.
-use mathlib.Core.Path.{_≡_, ap, _∙_}
-use Prim.Native.Nat.{ℕ, _+_, _-_, _*_, _/_, _≤_, min}
+use mathlib.Core.Path.{ap, _∙_}
+use Prim.Native.Nat.{ℕ, _-_, _*_, _/_}
 use borrow.Author.Needs.{needs}
-use native.Mathlib.Omega.{arith}
 use Rattle.machine.specs.declared.Numbers.{Numbers}
 use Rattle.machine.specs.declared.Ramp.{Ramp}
 use Rattle.machine.specs.Numbers.{unit, peakOf, upOf, downOf, rampOf}

@@ -1,11 +1,9 @@
 -- `machine::ramps::ramp_between` meets its contract: the two tests together are `rampable`. Assumes nothing.
 use mathlib.Core.Path.{_≡_, sym, ap, _∙_}
-use mathlib.Core.Bool.{Bool, true, false, cond}
-use Prim.Native.Nat.{ℕ}
+use mathlib.Core.Bool.{Bool, true, cond}
 use borrow.Author.Needs.{needs}
 use native.Mathlib.Omega.{arith}
-use Rattle.machine.specs.Numbers.{sized, rampable, rampOf, noRamp}
-use Rattle.machine.specs.declared.Ramp.{Ramp}
+use Rattle.machine.specs.Numbers.{sized, rampOf, noRamp}
 use Rattle.machine.proofs.Rampables.{Sized, sized-says, steps-say, rampable-is, rampable-true, rampable-unsized, rampable-apart}
 use Rattle.machine.proofs.ramps.ramp_between.Statement.{statement}
 use Rattle.machine.proofs.ramps.ramp_between.Tie as tie

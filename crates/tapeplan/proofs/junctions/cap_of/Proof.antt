@@ -1,11 +1,10 @@
 -- `tapeplan::junctions::cap_of` meets its contract, from the numbers of the two blocks. Assumes nothing.
 use mathlib.Core.Path.{_≡_, sym, ap, _∙_}
-use Prim.Native.Nat.{ℕ, _*_, _^_, _<_, min}
+use Prim.Native.Nat.{_*_, _^_, _<_, min}
 use borrow.Author.Needs.{needs}
 use borrow.Author.Tests.{eq-eqb, ne-eqb}
 use native.Mathlib.Omega.{arith}
-use lib.Dec.{eqb}
-use Rattle.machine.specs.Checks.{blockRefusal, movesOf, pick}
+use Rattle.machine.specs.Checks.{blockRefusal, movesOf}
 use Rattle.machine.specs.Numbers.{AxesBelow, numbersOf, turnFrom, cornerFrom, cornerCap, underCorner, junctionCap}
 use Rattle.machine.specs.declared.Block.{Block}
 use Rattle.machine.specs.declared.Limits.{Limits}

@@ -1,6 +1,6 @@
 -- `tapeplan::passes::forward_pass` meets its contract. The invariant: up to junction k the list holds the plan, behind it the backward pass. The measure is what is left. Assumes nothing.
 use borrow.Author.Needs.{needs}
-use mathlib.Core.Path.{_≡_, sym}
+use mathlib.Core.Path.{_≡_}
 use native.Mathlib.Omega.{arith}
 use mathlib.Core.List.{List}
 use Prim.Native.Nat.{ℕ, _+_, _-_, _<_, _≤_, zero-le}

@@ -1,12 +1,10 @@
 -- `tapeplan::whole::plan_records` meets its contract: the survey's lists are the tape's line, which the passes plan. Assumes nothing.
-use mathlib.Core.Path.{_≡_, refl, sym, ap, _∙_}
-use mathlib.Core.List.{List}
+use mathlib.Core.Path.{_≡_, sym, ap, _∙_}
 use Prim.Native.Nat.{ℕ, _+_, _≤_}
 use borrow.Author.Needs.{needs}
 use native.Mathlib.Omega.{arith}
 use lib.ListN.{length, take}
 use lib.Seq.{length-take-le}
-use Rattle.profile.specs.Line.{Step}
 use Rattle.profile.specs.Passes.{planOf}
 use Rattle.machine.specs.Checks.{limitsRefusal}
 use Rattle.machine.specs.Line.{stepsOf}

@@ -1,8 +1,7 @@
 -- `tapeplan::whole::plan_tape` meets its contract: the head decides, or the records do. Assumes nothing.
-use mathlib.Core.Path.{_≡_, sym, ap, _∙_}
+use mathlib.Core.Path.{sym, ap, _∙_}
 use Prim.Native.Nat.{ℕ}
 use borrow.Author.Needs.{needs}
-use Rattle.machine.specs.Checks.{refusalNumber}
 use Rattle.tape.specs.Display.{_at_, limitsAnswer}
 use Rattle.tape.proofs.Checks.{head-given, head-refused}
 use Rattle.tape.proofs.Faults.{fault-head}
