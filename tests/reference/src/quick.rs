@@ -2,7 +2,7 @@
 //!
 //! Each function gives what its namesake in `machine` finds by search.
 
-use crate::machine::{chord_bound, parts, ramp_down, ramp_up, torque_percent, torque_step};
+use crate::machine::{chord_bound, parts, ramp_to, torque_percent, torque_step};
 use crate::machine::{Block, Limits, Numbers, Ramp};
 
 /// All numbers of a block that passes checks 2 to 6.
@@ -70,12 +70,5 @@ fn capped_quotient(bound: u128, divisor: u64, cap: u64) -> u64 {
 /// Ramp for a plan's entry and exit squared speeds, (µm/s)².
 pub fn ramp_of(numbers: &Numbers, entry: u64, exit: u64) -> Ramp {
     let peak = numbers.cap.min((numbers.reach + entry + exit) / 2);
-    let up = ramp_up(peak - entry, numbers.accel);
-    let down = ramp_down(peak - exit, numbers.accel);
-    Ramp {
-        peak,
-        up,
-        cruise: numbers.length - up - down,
-        down,
-    }
+    ramp_to(peak, numbers, entry, exit)
 }
