@@ -1,19 +1,31 @@
 # make test: every check of the project; its last line is 'N passed, M failed'.
-.PHONY: test fmt clean expected
+.PHONY: test fmt clean expected examples
 
 test:
 	@tests/run
 
-# make expected: the cases of the programs machine_run and tape_run and what these must write for them,
-# made again by the independent implementation.
-EXPECT = CARGO_TARGET_DIR=target/reference cargo run --quiet --release --offline \
+# a program of the independent implementation
+REFERENCE = CARGO_TARGET_DIR=target/reference cargo run --quiet --release --offline \
     --manifest-path tests/reference/Cargo.toml --bin
 
+# make expected: the cases of the programs machine_run and tape_run and what these must write for them,
+# made again by the independent implementation.
 expected:
-	$(EXPECT) machine_expect -- cases > crates/machine_run/stdin
-	$(EXPECT) machine_expect -- answers < crates/machine_run/stdin > crates/machine_run/stdout
-	$(EXPECT) tape_expect -- cases > crates/tape_run/stdin
-	$(EXPECT) tape_expect -- answers < crates/tape_run/stdin > crates/tape_run/stdout
+	$(REFERENCE) machine_expect -- cases > crates/machine_run/stdin
+	$(REFERENCE) machine_expect -- answers < crates/machine_run/stdin > crates/machine_run/stdout
+	$(REFERENCE) tape_expect -- cases > crates/tape_run/stdin
+	$(REFERENCE) tape_expect -- answers < crates/tape_run/stdin > crates/tape_run/stdout
+
+# make examples: the example tapes and traces, made again.
+TAPES = $(addprefix examples/tapes/,right-angle.tape mould-row.tape square-pocket.tape to-and-fro.tape)
+TRACES = examples/traces/shop-traffic.trace
+
+examples: $(TAPES) $(TRACES)
+
+.PHONY: $(TAPES) $(TRACES)
+$(TAPES) $(TRACES):
+	@mkdir -p $(@D)
+	$(REFERENCE) maketape -- $(basename $(@F)) > $@
 
 fmt:
 	@rt fmt
