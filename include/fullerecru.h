@@ -1,7 +1,8 @@
 /* Fullerecru: a proved look-ahead speed planner for three-axis milling tables.
  *
- * Link with libfullerecru.a (made by `rt staticlib fullerecru`). The library allocates nothing
- * and keeps nothing between calls: all that it works on is lent by the caller.
+ * Link with libfullerecru.a (made by `rt staticlib fullerecru`). The library allocates nothing and keeps
+ * nothing between calls: all that it works on is lent by the caller. Of the C library it calls memset
+ * alone.
  *
  * Units: lengths in µm, speeds in µm/s, squared speeds in (µm/s)², accelerations in µm/s², the tick
  * in microseconds. Every quantity is a whole number.

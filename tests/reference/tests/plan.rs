@@ -1,8 +1,7 @@
 //! The plan is the highest lawful profile.
 
-use reference::generate::{calls, limits, path, tiny_limits};
+use reference::generate::{calls, limits, path, tiny_block, tiny_limits};
 use reference::line::{Line, LookAhead};
-use reference::machine::Block;
 use reference::plan::*;
 use reference::rng::Rng;
 use reference::trace::Call;
@@ -41,17 +40,6 @@ fn brute_force_on_every_small_course() {
         }
     }
     assert_eq!(courses, 4 + 16 + 256 + 4_096);
-}
-
-/// A block so slow and short that its squared speeds can all be tried.
-fn tiny_block(rng: &mut Rng) -> Block {
-    let moves = [(); 3].map(|_| rng.signed(1));
-    Block {
-        moves: if moves == [0; 3] { [1, 0, 0] } else { moves },
-        feed: rng.within(1, 4),
-        radius: rng.pick(&[0, 0, 1]),
-        mark: 0,
-    }
 }
 
 /// What held the junctions of the lines tried.
