@@ -1,11 +1,13 @@
 //! The proved code as Rust calls, to be compared with the reference.
 //!
-//! `proved` calls the static library; what it lends stands between guards, and
-//! each call sees that they, and on a refusal everything lent, stay as they
-//! were. `programs` runs planlist and planreplay. `words` has the lists of
-//! numbers that stand for limits, blocks and blocks given out.
+//! `library` has the functions of the static library. `proved` calls them; what
+//! it lends stands between guards, and each call sees that they, and on a
+//! refusal everything lent, stay as they were. `programs` runs planlist and
+//! planreplay. `words` has the lists of numbers that stand for limits, blocks
+//! and blocks given out.
 
 pub mod guarded;
+pub mod library;
 pub mod programs;
 pub mod proved;
 pub mod words;
@@ -20,6 +22,18 @@ pub fn same<T: PartialEq + Debug>(seed: u64, input: impl Fn() -> String, proved:
             "seed {seed}\ninput {}\nproved    {proved:?}\nreference {reference:?}",
             input()
         );
+    }
+}
+
+/// Says its seed where a test panics while it is alive: a guard that changed
+/// is seen inside a call, which knows of no seed.
+pub struct Trying(pub u64);
+
+impl Drop for Trying {
+    fn drop(&mut self) {
+        if std::thread::panicking() {
+            eprintln!("while trying seed {}", self.0);
+        }
     }
 }
 

@@ -1,4 +1,4 @@
-//! The functions of libfullerecru.a. Each call lends lists between guards and
+//! The calls of libfullerecru.a. Each lends lists between guards and
 //! sees that a refusal left every lent number and byte as it was.
 
 use std::fmt::Debug;
@@ -8,68 +8,13 @@ use reference::machine::{Block, Given, Limits};
 use reference::refusal::{Fault, Refusal};
 
 use crate::guarded::Guarded;
+use crate::library::*;
 use crate::words::{answer_of, given_of, limit_words, limits_of};
-
-/// Numbers of a planner's memory.
-pub const NUMBERS: usize = 780;
-/// Numbers of a trace's row, and of the list for its plan.
-pub const ROW: usize = 15;
-pub const PLAN: usize = 65;
 
 /// What lent numbers, bytes and guards hold before a call.
 const FILLER: u64 = 0xa5a5_5a5a_0ff0_f00f;
 const GUARD: u64 = 0x5eed_0000_dead_5eed;
 const BYTE_GUARD: u8 = 0xc3;
-
-extern "C" {
-    fn fullerecru_fresh(memory: *mut u64, limits: *const u64) -> u64;
-    fn fullerecru_add(
-        memory: *mut u64,
-        x: i64,
-        y: i64,
-        z: i64,
-        feed: u64,
-        radius: u64,
-        mark: u64,
-    ) -> u64;
-    fn fullerecru_take(memory: *mut u64, moves: *mut i64, numbers: *mut u64) -> u64;
-    fn fullerecru_told(memory: *const u64) -> u64;
-    fn fullerecru_shown(memory: *const u64, list: *mut u64, count: usize) -> u64;
-    fn fullerecru_read_limits(bytes: *const u8, count: usize, limits: *mut u64) -> u64;
-    fn fullerecru_write_limits(limits: *const u64, bytes: *mut u8, count: usize) -> u64;
-    fn fullerecru_read_record(
-        bytes: *const u8,
-        count: usize,
-        moves: *mut i64,
-        numbers: *mut u64,
-    ) -> u64;
-    fn fullerecru_write_record(
-        x: i64,
-        y: i64,
-        z: i64,
-        feed: u64,
-        radius: u64,
-        mark: u64,
-        bytes: *mut u8,
-        count: usize,
-    ) -> u64;
-    fn fullerecru_plan_tape(
-        tape: *const u8,
-        count: usize,
-        list: *mut u64,
-        junctions: usize,
-        place: *mut u64,
-    ) -> u64;
-    fn fullerecru_replay(
-        trace: *const u8,
-        count: usize,
-        answers: *mut u64,
-        numbers: usize,
-        plan: *mut u64,
-        junctions: usize,
-        told: *mut u64,
-    ) -> u64;
-}
 
 /// A lent list of `count` numbers.
 fn numbers(count: usize) -> Guarded<u64> {

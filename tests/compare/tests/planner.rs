@@ -2,9 +2,10 @@
 
 use std::collections::BTreeSet;
 
-use compare::proved::{Planner, NUMBERS};
+use compare::library::NUMBERS;
+use compare::proved::Planner;
 use compare::words::{any_block, any_limits, any_word};
-use compare::{hex, report, same};
+use compare::{hex, report, same, Trying};
 use reference::generate::*;
 use reference::incremental;
 use reference::line::{Line, LookAhead};
@@ -57,6 +58,7 @@ fn compare_with<P: LookAhead>(seed: u64, limits: &Limits, calls: &[Call]) -> BTr
 fn every_call_is_answered_as_the_line_of_blocks_says() {
     let (mut met, mut count) = (BTreeSet::new(), 0);
     for seed in 0..3_000 {
+        let _trying = Trying(seed);
         let mut rng = Rng::new(seed);
         let limits = limits(&mut rng);
         let length = rng.within(1, 300) as usize;
@@ -73,6 +75,7 @@ fn every_call_is_answered_as_the_line_of_blocks_says() {
 fn long_runs_are_answered_as_the_other_planner_answers() {
     let mut count = 0;
     for seed in 0..8 {
+        let _trying = Trying(seed);
         let mut rng = Rng::new(seed);
         let limits = limits(&mut rng);
         let calls = calls(&mut rng, 60_000);
@@ -87,6 +90,7 @@ fn long_runs_are_answered_as_the_other_planner_answers() {
 fn each_number_of_blocks_held_gives_the_same_speeds() {
     let mut count = 0;
     for held in 1..=64 {
+        let _trying = Trying(held);
         for blocks in [short_steps(held, 300), straight_steps(held, 300)] {
             let (first, rest) = blocks.split_at(held as usize);
             let mut list: Vec<Call> = first.iter().map(|b| Call::Add(*b)).collect();
@@ -103,6 +107,7 @@ fn each_number_of_blocks_held_gives_the_same_speeds() {
 fn fresh_planners_are_made_from_the_same_limits() {
     let mut made = 0;
     for seed in 0..20_000 {
+        let _trying = Trying(seed);
         let mut rng = Rng::new(seed);
         let limits = match rng.below(4) {
             0 => any_limits(&mut rng),
@@ -128,6 +133,7 @@ fn fresh_planners_are_made_from_the_same_limits() {
 fn adds_of_any_words_are_answered_alike() {
     let mut count = 0;
     for seed in 0..200 {
+        let _trying = Trying(seed);
         let mut rng = Rng::new(seed);
         let mut proved = Planner::fresh(&machine_m()).expect("machine M passes");
         let mut line = Line::fresh(&machine_m()).expect("machine M passes");
@@ -152,6 +158,7 @@ fn adds_of_any_words_are_answered_alike() {
 fn planners_do_not_disturb_one_another() {
     let mut count = 0;
     for seed in 0..100 {
+        let _trying = Trying(seed);
         let mut rng = Rng::new(seed);
         let both = [limits(&mut rng), limits(&mut rng)];
         let lists = [calls(&mut rng, 200), calls(&mut rng, 200)];
@@ -178,6 +185,7 @@ fn planners_do_not_disturb_one_another() {
 fn memory_of_noise_is_no_danger() {
     let mut count = 0;
     for seed in 0..4_000 {
+        let _trying = Trying(seed);
         let mut rng = Rng::new(seed);
         let memory = [(); NUMBERS].map(|_| any_word(&mut rng));
         let mut planner = Planner::of_memory(&memory);

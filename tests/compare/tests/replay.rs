@@ -2,9 +2,9 @@
 
 use std::collections::BTreeSet;
 
-use compare::proved::{self, PLAN, ROW};
+use compare::library::{PLAN, ROW};
 use compare::words::given_words;
-use compare::{hex, report, same};
+use compare::{hex, proved, report, same, Trying};
 use reference::examples::{example_trace, TRACE_NAMES};
 use reference::generate::trace;
 use reference::line::{Line, LookAhead};
@@ -87,6 +87,7 @@ fn rows(trace: &[u8]) -> usize {
 fn traces_are_run_as_the_line_of_blocks_says() {
     let (mut met, mut count) = (BTreeSet::new(), 0);
     for seed in 0..3_000 {
+        let _trying = Trying(seed);
         let mut rng = Rng::new(seed);
         let bytes = trace(&mut rng);
         let right = rows(&bytes);

@@ -2,7 +2,7 @@
 
 use std::collections::BTreeSet;
 
-use compare::{hex, proved, report, same};
+use compare::{hex, proved, report, same, Trying};
 use reference::examples::{example, NAMES};
 use reference::generate::{faulty_tape, machine_m, short_steps, straight_steps, tape};
 use reference::refusal::Fault;
@@ -43,6 +43,7 @@ fn compare_both(seed: u64, rng: &mut Rng, bytes: &[u8]) -> [u64; 2] {
 fn accepted_tapes_have_the_same_plan() {
     let (mut met, mut count) = (BTreeSet::new(), 0);
     for seed in 0..4_000 {
+        let _trying = Trying(seed);
         let mut rng = Rng::new(seed);
         let bytes = tape(&mut rng);
         met.extend(compare_both(seed, &mut rng, &bytes));
@@ -58,6 +59,7 @@ fn accepted_tapes_have_the_same_plan() {
 fn faulty_tapes_have_the_same_refusal_and_place() {
     let (mut met, mut count) = (BTreeSet::new(), 0);
     for seed in 0..8_000 {
+        let _trying = Trying(seed);
         let mut rng = Rng::new(seed);
         let bytes = faulty_tape(&mut rng);
         met.extend(compare_both(seed, &mut rng, &bytes));
