@@ -1,8 +1,21 @@
 # make test: every check of the project; its last line is 'N passed, M failed'.
-.PHONY: test fmt clean expected examples
+.PHONY: test run bench picture examples expected fmt clean
 
 test:
 	@tests/run
+
+# make run: lists a tape. The first time planlist and all that it uses is proved and built.
+TAPE = examples/tapes/mould-row.tape
+
+run:
+	rt check planlist
+	target/bin/planlist < $(TAPE)
+
+# make bench: time and instructions of the proved code beside the independent implementation.
+bench:
+	rt staticlib fullerecru
+	rt check planlist
+	tests/bench/run
 
 # a program of the independent implementation
 REFERENCE = CARGO_TARGET_DIR=target/reference cargo run --quiet --release --offline \

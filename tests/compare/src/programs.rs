@@ -31,11 +31,12 @@ pub fn planreplay() -> PathBuf {
     path("PLANREPLAY", "planreplay")
 }
 
-/// Starts the program.
-pub fn start(program: &PathBuf, input: Stdio) -> Child {
+/// Starts the program with its input and output.
+pub fn start(program: &PathBuf, input: Stdio, output: Stdio) -> Child {
     let mut command = Command::new(program);
-    command.stdin(input).stdout(Stdio::piped());
     command
+        .stdin(input)
+        .stdout(output)
         .spawn()
         .unwrap_or_else(|error| panic!("{}: {error}", program.display()))
 }
@@ -68,7 +69,7 @@ pub fn text_of(mut child: Child) -> String {
 
 /// What the program writes for an input that comes in pieces of some bytes.
 pub fn run_in_pieces(program: &PathBuf, input: &[u8], piece: usize) -> String {
-    let mut child = start(program, Stdio::piped());
+    let mut child = start(program, Stdio::piped(), Stdio::piped());
     let mut pipe = child.stdin.take().expect("piped");
     let input = input.to_vec();
     // a program that has seen enough closes the pipe: that ends the writing

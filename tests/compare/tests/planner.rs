@@ -164,9 +164,8 @@ fn planners_do_not_disturb_one_another() {
         let lists = [calls(&mut rng, 200), calls(&mut rng, 200)];
         let mut lines = both.map(|l| Line::fresh(&l).expect("limits that pass"));
         let mut planners = both.map(|l| Planner::fresh(&l).expect("limits that pass"));
-        for k in 0..200 {
-            for i in 0..2 {
-                let call = &lists[i][k];
+        for (first, second) in lists[0].iter().zip(&lists[1]) {
+            for (i, call) in [first, second].into_iter().enumerate() {
                 let expected = answer(&mut lines[i], call);
                 let found = answer(&mut planners[i], call);
                 same(seed, || hex(&pack_call(call)), found, expected);

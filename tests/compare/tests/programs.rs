@@ -123,9 +123,9 @@ fn planlist_answers_empty_ragged_and_noisy_input() {
 #[test]
 fn planlist_ends_on_endless_input() {
     let zeros = File::open("/dev/zero").expect("/dev/zero");
-    let text = text_of(start(&planlist(), Stdio::from(zeros)));
+    let text = text_of(start(&planlist(), Stdio::from(zeros), Stdio::piped()));
     assert_eq!(text, "refused 10 at 0\n");
-    let mut child = start(&planlist(), Stdio::piped());
+    let mut child = start(&planlist(), Stdio::piped(), Stdio::piped());
     let mut pipe = child.stdin.take().expect("piped");
     let tape = example("mould-row").expect("an example").pack();
     while pipe.write_all(&tape).is_ok() {} // until planlist has closed it

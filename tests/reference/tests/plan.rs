@@ -3,6 +3,7 @@
 use reference::generate::{calls, limits, path, tiny_block, tiny_limits};
 use reference::line::{Line, LookAhead};
 use reference::plan::*;
+use reference::quick::plan_of;
 use reference::rng::Rng;
 use reference::trace::Call;
 
@@ -109,14 +110,16 @@ fn passes_agree_with_sums() {
     }
 }
 
-/// The same for whole paths from rest to rest.
+/// The same for whole paths from rest to rest, and with numbers by division.
 #[test]
 fn whole_paths_agree_with_sums() {
     for seed in 0..100 {
         let mut rng = Rng::new(seed);
         let limits = limits(&mut rng);
         let count = rng.within(0, 150) as usize;
-        let course = Course::of(&limits, &path(&mut rng, count), 0);
+        let blocks = path(&mut rng, count);
+        let course = Course::of(&limits, &blocks, 0);
         assert_eq!(highest(&course), Some(highest_by_sums(&course)));
+        assert_eq!(plan_of(&limits, &blocks), highest(&course));
     }
 }
