@@ -17,6 +17,14 @@ bench:
 	rt check planlist
 	tests/bench/run
 
+# make picture: docs/plan.svg, the speeds of the mould's plan, drawn again.
+PICTURED = examples/tapes/mould-row.tape
+TITLE = Two rows over a mould: 325 blocks, most of them chords of 0.25 to 0.34 mm
+
+picture:
+	rt check planlist
+	target/bin/planlist < $(PICTURED) | tools/picture $(PICTURED) '$(TITLE)' > docs/plan.svg
+
 # a program of the independent implementation
 REFERENCE = CARGO_TARGET_DIR=target/reference cargo run --quiet --release --offline \
     --manifest-path tests/reference/Cargo.toml --bin
