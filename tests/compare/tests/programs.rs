@@ -128,7 +128,9 @@ fn planlist_ends_on_endless_input() {
     let mut child = start(&planlist(), Stdio::piped(), Stdio::piped());
     let mut pipe = child.stdin.take().expect("piped");
     let tape = example("mould-row").expect("an example").pack();
-    while pipe.write_all(&tape).is_ok() {} // until planlist has closed it
+    // until planlist has closed the pipe, which stays open on this side
+    let taken = (0..2_000).take_while(|_| pipe.write_all(&tape).is_ok());
+    assert!(taken.count() < 2_000, "planlist reads on and on");
     assert_eq!(text_of(child), "refused 10 at 0\n");
     report(2, "endless inputs");
 }
