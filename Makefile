@@ -1,20 +1,53 @@
 # make test: every check of the project; its last line is 'N passed, M failed'.
-.PHONY: test fmt clean expected
+.PHONY: test run bench picture examples expected fmt clean
 
 test:
 	@tests/run
 
-# make expected: the cases of the programs machine_run and tape_run and what these and planreplay must
-# write, made again by the independent implementation.
-EXPECT = CARGO_TARGET_DIR=target/reference cargo run --quiet --release --offline \
+# make run: lists a tape. The first time planlist and all that it uses is proved and built.
+TAPE = examples/tapes/mould-row.tape
+
+run:
+	rt check planlist
+	@target/bin/planlist < $(TAPE)
+
+# make bench: time and instructions of the proved code beside the independent implementation.
+bench:
+	rt staticlib fullerecru
+	rt check planlist
+	tests/bench/run
+
+# make picture: docs/plan.svg, the speeds of the mould's plan, drawn again.
+PICTURED = examples/tapes/mould-row.tape
+TITLE = Two rows over a mould: 325 blocks, most of them chords of 0.25 to 0.34 mm
+
+picture:
+	rt check planlist
+	target/bin/planlist < $(PICTURED) | tools/picture $(PICTURED) '$(TITLE)' > docs/plan.svg
+
+# a program of the independent implementation
+REFERENCE = CARGO_TARGET_DIR=target/reference cargo run --quiet --release --offline \
     --manifest-path tests/reference/Cargo.toml --bin
 
+# make expected: the cases of the programs machine_run and tape_run, and what these and planreplay must
+# write, made again by the independent implementation.
 expected:
-	$(EXPECT) machine_expect -- cases > crates/machine_run/stdin
-	$(EXPECT) machine_expect -- answers < crates/machine_run/stdin > crates/machine_run/stdout
-	$(EXPECT) tape_expect -- cases > crates/tape_run/stdin
-	$(EXPECT) tape_expect -- answers < crates/tape_run/stdin > crates/tape_run/stdout
-	$(EXPECT) planreplay_ref < crates/planreplay/stdin > crates/planreplay/stdout
+	$(REFERENCE) machine_expect -- cases > crates/machine_run/stdin
+	$(REFERENCE) machine_expect -- answers < crates/machine_run/stdin > crates/machine_run/stdout
+	$(REFERENCE) tape_expect -- cases > crates/tape_run/stdin
+	$(REFERENCE) tape_expect -- answers < crates/tape_run/stdin > crates/tape_run/stdout
+	$(REFERENCE) planreplay_ref < crates/planreplay/stdin > crates/planreplay/stdout
+
+# make examples: the example tapes and traces, made again.
+TAPES = $(addprefix examples/tapes/,right-angle.tape mould-row.tape square-pocket.tape to-and-fro.tape)
+TRACES = examples/traces/shop-traffic.trace
+
+examples: $(TAPES) $(TRACES)
+
+.PHONY: $(TAPES) $(TRACES)
+$(TAPES) $(TRACES):
+	@mkdir -p $(@D)
+	$(REFERENCE) maketape -- $(basename $(@F)) > $@
 
 fmt:
 	@rt fmt

@@ -1,8 +1,10 @@
-//! Example tapes.
+//! Example tapes and traces.
 
 use crate::generate::machine_m;
 use crate::machine::{Block, Limits};
+use crate::rng::Rng;
 use crate::tape::Tape;
+use crate::trace::{pack_trace, Call};
 
 /// Names of the example tapes.
 pub const NAMES: [&str; 4] = ["right-angle", "mould-row", "square-pocket", "to-and-fro"];
@@ -14,6 +16,17 @@ pub fn example(name: &str) -> Option<Tape> {
         "mould-row" => Some(mould_row()),
         "square-pocket" => Some(square_pocket()),
         "to-and-fro" => Some(to_and_fro()),
+        _ => None,
+    }
+}
+
+/// Names of the example traces.
+pub const TRACE_NAMES: [&str; 1] = ["shop-traffic"];
+
+/// The bytes of the example trace of a name.
+pub fn example_trace(name: &str) -> Option<Vec<u8>> {
+    match name {
+        "shop-traffic" => Some(pack_trace(&mill(), &shop_traffic())),
         _ => None,
     }
 }
@@ -88,6 +101,31 @@ fn row(way: i64) -> Vec<Block> {
 /// Height of the dome above its centre at a distance `x` from its axis, µm.
 fn height(x: i64) -> i64 {
     (DOME * DOME - x * x).isqrt()
+}
+
+/// Most blocks that the shop's host keeps ahead.
+pub const AHEAD: usize = 8;
+
+/// One row of the mould through a planner that is seldom full: the host sends
+/// blocks as it finds time, at most 8 ahead, and the table takes them as it
+/// moves. It asks once before there is any, and the host sends a block that
+/// does not move after each 40. The last blocks stay held.
+pub fn shop_traffic() -> Vec<Call> {
+    let mut rng = Rng::new(1);
+    let mut calls = vec![Call::Take];
+    let mut held = 0;
+    for (k, block) in numbered(1, row(1)).into_iter().enumerate() {
+        while held == AHEAD || (held > 0 && rng.once_in(2)) {
+            calls.push(Call::Take);
+            held -= 1;
+        }
+        calls.push(Call::Add(block));
+        held += 1;
+        if k % 40 == 39 {
+            calls.push(Call::Add(plain([0; 3])));
+        }
+    }
+    calls
 }
 
 /// A square pocket cleared from its centre outwards in loops with right

@@ -122,7 +122,7 @@ pub fn cases() -> Vec<Case> {
 }
 
 /// A block of document 01's proof cases: feed 20,000, no radius, no mark.
-fn block(x: i64, y: i64, z: i64) -> Block {
+pub fn block(x: i64, y: i64, z: i64) -> Block {
     Block {
         moves: [x, y, z],
         feed: 20_000,

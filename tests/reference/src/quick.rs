@@ -2,8 +2,9 @@
 //!
 //! Each function gives what its namesake in `machine` finds by search.
 
-use crate::machine::{chord_bound, parts, ramp_down, ramp_up, torque_percent, torque_step};
+use crate::machine::{chord_bound, parts, ramp_to, torque_percent, torque_step};
 use crate::machine::{Block, Limits, Numbers, Ramp};
+use crate::plan::{highest, Course};
 
 /// All numbers of a block that passes checks 2 to 6.
 pub fn numbers_of(limits: &Limits, block: &Block) -> Numbers {
@@ -70,12 +71,17 @@ fn capped_quotient(bound: u128, divisor: u64, cap: u64) -> u64 {
 /// Ramp for a plan's entry and exit squared speeds, (µm/s)².
 pub fn ramp_of(numbers: &Numbers, entry: u64, exit: u64) -> Ramp {
     let peak = numbers.cap.min((numbers.reach + entry + exit) / 2);
-    let up = ramp_up(peak - entry, numbers.accel);
-    let down = ramp_down(peak - exit, numbers.accel);
-    Ramp {
-        peak,
-        up,
-        cruise: numbers.length - up - down,
-        down,
-    }
+    ramp_to(peak, numbers, entry, exit)
+}
+
+/// Plan of checked blocks from rest to rest, (µm/s)².
+pub fn plan_of(limits: &Limits, blocks: &[Block]) -> Option<Vec<u64>> {
+    let numbers: Vec<Numbers> = blocks.iter().map(|b| numbers_of(limits, b)).collect();
+    let known = |k: usize| (&blocks[k], &numbers[k]);
+    let cap = |k: usize| junction_cap(limits, known(k - 1), known(k));
+    highest(&Course {
+        committed: 0,
+        caps: (1..blocks.len()).map(cap).collect(),
+        reaches: numbers.iter().map(|n| n.reach).collect(),
+    })
 }

@@ -4,18 +4,9 @@ use reference::generate::machine_m;
 use reference::incremental::Planner;
 use reference::line::{Line, LookAhead};
 use reference::machine::*;
+use reference::machine_cases::block;
 use reference::plan::{highest, Course};
 use reference::refusal::Refusal;
-
-/// A block of machine M's cases: feed 20,000, radius 0.
-fn block(x: i64, y: i64, z: i64) -> Block {
-    Block {
-        moves: [x, y, z],
-        feed: 20_000,
-        radius: 0,
-        mark: 0,
-    }
-}
 
 fn plan(blocks: &[Block]) -> Option<Vec<u64>> {
     highest(&Course::of(&machine_m(), blocks, 0))

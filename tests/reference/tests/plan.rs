@@ -1,9 +1,9 @@
 //! The plan is the highest lawful profile.
 
-use reference::generate::{calls, limits, path, tiny_limits};
+use reference::generate::{calls, limits, path, tiny_block, tiny_limits};
 use reference::line::{Line, LookAhead};
-use reference::machine::Block;
 use reference::plan::*;
+use reference::quick::plan_of;
 use reference::rng::Rng;
 use reference::trace::Call;
 
@@ -41,17 +41,6 @@ fn brute_force_on_every_small_course() {
         }
     }
     assert_eq!(courses, 4 + 16 + 256 + 4_096);
-}
-
-/// A block so slow and short that its squared speeds can all be tried.
-fn tiny_block(rng: &mut Rng) -> Block {
-    let moves = [(); 3].map(|_| rng.signed(1));
-    Block {
-        moves: if moves == [0; 3] { [1, 0, 0] } else { moves },
-        feed: rng.within(1, 4),
-        radius: rng.pick(&[0, 0, 1]),
-        mark: 0,
-    }
 }
 
 /// What held the junctions of the lines tried.
@@ -121,14 +110,16 @@ fn passes_agree_with_sums() {
     }
 }
 
-/// The same for whole paths from rest to rest.
+/// The same for whole paths from rest to rest, and with numbers by division.
 #[test]
 fn whole_paths_agree_with_sums() {
     for seed in 0..100 {
         let mut rng = Rng::new(seed);
         let limits = limits(&mut rng);
         let count = rng.within(0, 150) as usize;
-        let course = Course::of(&limits, &path(&mut rng, count), 0);
+        let blocks = path(&mut rng, count);
+        let course = Course::of(&limits, &blocks, 0);
         assert_eq!(highest(&course), Some(highest_by_sums(&course)));
+        assert_eq!(plan_of(&limits, &blocks), highest(&course));
     }
 }

@@ -1,9 +1,9 @@
-//! Writes an example tape, or a seeded tape or trace, to standard output.
+//! Writes an example tape or trace, or a seeded one, to standard output.
 
 use std::io::{self, Write};
 use std::process::ExitCode;
 
-use reference::examples::{example, NAMES};
+use reference::examples::{example, example_trace, NAMES, TRACE_NAMES};
 use reference::generate::{faulty_tape, tape, trace};
 use reference::rng::Rng;
 
@@ -11,7 +11,8 @@ use reference::rng::Rng;
 fn main() -> ExitCode {
     let arguments: Vec<String> = std::env::args().skip(1).collect();
     let Some(bytes) = bytes_of(&arguments) else {
-        eprintln!("maketape {}", NAMES.join(" | "));
+        let names = [&NAMES[..], &TRACE_NAMES[..]].concat();
+        eprintln!("maketape {}", names.join(" | "));
         eprintln!("maketape tape | faulty | trace SEED");
         return ExitCode::FAILURE;
     };
@@ -24,7 +25,10 @@ fn main() -> ExitCode {
 /// The bytes that the arguments ask for.
 fn bytes_of(arguments: &[String]) -> Option<Vec<u8>> {
     match arguments {
-        [name] => example(name).map(|tape| tape.pack()),
+        [name] => {
+            let tape = example(name).map(|tape| tape.pack());
+            tape.or_else(|| example_trace(name))
+        }
         [kind, seed] => seeded(kind, &mut Rng::new(seed.parse().ok()?)),
         _ => None,
     }

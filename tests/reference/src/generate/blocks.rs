@@ -131,6 +131,17 @@ fn dressed(rng: &mut Rng, kind: Kind, moves: [i64; 3], feed: u64) -> Block {
     }
 }
 
+/// A block so slow and short that its squared speeds can all be tried.
+pub fn tiny_block(rng: &mut Rng) -> Block {
+    let moves = [(); 3].map(|_| rng.signed(1));
+    Block {
+        moves: if moves == [0; 3] { [1, 0, 0] } else { moves },
+        feed: rng.within(1, 4),
+        radius: rng.pick(&[0, 0, 1]),
+        mark: 0,
+    }
+}
+
 /// Sets of refusals that one block can meet at once.
 pub const BLOCK_FAULTS: [&[u64]; 15] = [
     &[2],

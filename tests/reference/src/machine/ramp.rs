@@ -51,7 +51,12 @@ pub fn given(limits: &Limits, block: &Block, entry: u64, exit: u64) -> Given {
 pub fn ramp_of(numbers: &Numbers, entry: u64, exit: u64) -> Ramp {
     let speeds = entry as u128 + exit as u128;
     let lawful = |p: u128| p <= numbers.cap as u128 && 2 * p <= numbers.reach as u128 + speeds;
-    let peak = largest(lawful) as u64;
+    ramp_to(largest(lawful) as u64, numbers, entry, exit)
+}
+
+/// Ramp up from the entry to a peak and down to the exit, all (µm/s)²; what
+/// is left of the length is run at the peak.
+pub fn ramp_to(peak: u64, numbers: &Numbers, entry: u64, exit: u64) -> Ramp {
     let up = ramp_up(peak - entry, numbers.accel);
     let down = ramp_down(peak - exit, numbers.accel);
     Ramp {
@@ -63,11 +68,11 @@ pub fn ramp_of(numbers: &Numbers, entry: u64, exit: u64) -> Ramp {
 }
 
 /// Length needed to gain `rise` (µm/s)² of squared speed, rounded down.
-pub fn ramp_up(rise: u64, accel: u64) -> u64 {
+fn ramp_up(rise: u64, accel: u64) -> u64 {
     parts(rise) / (2 * accel)
 }
 
 /// Length needed to lose `fall` (µm/s)² of squared speed, rounded down.
-pub fn ramp_down(fall: u64, accel: u64) -> u64 {
+fn ramp_down(fall: u64, accel: u64) -> u64 {
     parts(fall) / (2 * accel)
 }

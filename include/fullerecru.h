@@ -1,0 +1,192 @@
+/* Fullerecru: a proved look-ahead speed planner for three-axis milling tables.
+ *
+ * Link with libfullerecru.a (made by `rt staticlib fullerecru`). The library allocates nothing
+ * and keeps nothing between calls: all that it works on is lent by the caller. Of the C library
+ * it calls memset alone. A call needs under 1 kB of stack, fullerecru_replay 7 kB and
+ * fullerecru_plan_tape 34 kB.
+ *
+ * Units: lengths in µm, speeds in µm/s, squared speeds in (µm/s)², accelerations in µm/s², the
+ * tick in microseconds. Every quantity is a whole number.
+ *
+ * Answers: a function returns 0 where the call is accepted, else the number of its refusal (see
+ * below). Where several refusals hold, the one given is the first in the order that stands at the
+ * function. A refused call changes nothing that was lent, but for the place that tells where a
+ * tape is at fault (fullerecru_plan_tape). Any numbers and any bytes are answered: the ranges
+ * below are checked, not required.
+ *
+ * Lent memory: a pointer must not be null and must be aligned as its type asks (8 bytes for the
+ * lists of numbers, 1 for bytes). Behind it must be as many items as the array's size or the
+ * count beside it says. The lists lent to one call must not overlap where one of them is written.
+ *
+ * Threads: there is no shared state. Calls may run at the same time if they are lent different
+ * memory; a planner's memory is used by one call at a time (several fullerecru_told and
+ * fullerecru_shown may read it together).
+ */
+#ifndef FULLERECRU_H
+#define FULLERECRU_H
+
+#include <stddef.h>
+#include <stdint.h>
+
+#ifdef __cplusplus
+extern "C" {
+#endif
+
+enum {
+    /* Numbers of 64 bits in a planner's memory. */
+    FULLERECRU_NUMBERS = 780,
+    /* Most blocks that a planner holds. */
+    FULLERECRU_PLACES = 64,
+    /* Numbers of a machine's limits. */
+    FULLERECRU_LIMITS = 9,
+    /* Moves of a block. */
+    FULLERECRU_MOVES = 3,
+    /* Numbers of a block given out, beside its moves. */
+    FULLERECRU_GIVEN = 11,
+    /* Numbers of a record read, beside its moves: feed, radius, mark. */
+    FULLERECRU_RECORD = 3,
+    /* Bytes of the limits and of each record on tape. */
+    FULLERECRU_LIMITS_BYTES = 24,
+    FULLERECRU_RECORD_BYTES = 16,
+    /* Most blocks and most bytes of a tape. */
+    FULLERECRU_MOST_BLOCKS = 2048,
+    FULLERECRU_MOST_TAPE = 32792,
+    /* Bytes of each call of a trace. */
+    FULLERECRU_CALL_BYTES = 28,
+    /* Numbers of the row that answers a call of a trace. */
+    FULLERECRU_ROW = 15,
+    /* Numbers of the list that a replay's plan is written in: one more than most blocks. */
+    FULLERECRU_PLAN = 65
+};
+
+/* The numbers on the display. */
+enum fullerecru_refusal {
+    FULLERECRU_ACCEPTED = 0,
+    /* a machine limit outside its range, or a zero bit of the tape's limits set */
+    FULLERECRU_REFUSED_LIMITS = 1,
+    /* all three moves 0 */
+    FULLERECRU_REFUSED_STILL = 2,
+    /* a move beyond its range */
+    FULLERECRU_REFUSED_LONG = 3,
+    /* feed 0 or too high */
+    FULLERECRU_REFUSED_FEED = 4,
+    /* radius too large */
+    FULLERECRU_REFUSED_RADIUS = 5,
+    /* mark too large */
+    FULLERECRU_REFUSED_MARK = 6,
+    /* 64 blocks held */
+    FULLERECRU_REFUSED_FULL = 7,
+    /* take with none held */
+    FULLERECRU_REFUSED_EMPTY = 8,
+    /* tape under 24 bytes, or its rest no multiple of 16; a trace likewise, by 28; for the limits
+     * or one record read or written alone, fewer bytes lent than it needs */
+    FULLERECRU_REFUSED_RAGGED = 9,
+    /* tape longer than 32,792 bytes */
+    FULLERECRU_REFUSED_MANY = 10,
+    /* lent list of speeds not exactly one longer than the blocks; a replay's list not of its size */
+    FULLERECRU_REFUSED_LIST = 11
+};
+
+/* The planner: 64 places in memory of the caller. What the 780 numbers hold is the planner's own
+ * business: the caller keeps them and writes none of them. */
+
+/* Makes a fresh planner: no block held, committed speed 0. The memory need not be initialised.
+ *
+ * limits: acceleration of X, Y, Z, 1 to 20,000,000 µm/s²; speed of X, Y, Z, 1 to 1,000,000 µm/s;
+ * corner jump, 1 to 1,000,000 µm/s; chord tolerance, 1 to 1,000 µm; tick, 100 to 10,000 µs.
+ *
+ * Refuses by 1. Accepted, it writes the memory. */
+uint64_t fullerecru_fresh(uint64_t memory[FULLERECRU_NUMBERS],
+                          const uint64_t limits[FULLERECRU_LIMITS]);
+
+/* Adds a block behind those held.
+ *
+ * x, y, z: signed moves, -1,000,000 to 1,000,000 µm, not all 0. feed: 1 to 1,000,000 µm/s. radius
+ * of the curve that the block is a chord of: 0 to 10,000,000 µm, 0 for no curve. mark: a label of
+ * the caller's, 0 to 2,097,151.
+ *
+ * Refuses by 2, 3, 4, 5, 6, 7 in that order. Accepted, it writes the memory. */
+uint64_t fullerecru_add(uint64_t memory[FULLERECRU_NUMBERS], int64_t x, int64_t y, int64_t z,
+                        uint64_t feed, uint64_t radius, uint64_t mark);
+
+/* Takes the first block out and gives it to the caller. The speed at its end becomes the
+ * committed one: every later plan begins with it.
+ *
+ * moves: X, Y, Z, µm. numbers: feed, µm/s; radius, µm; mark; length, µm; acceleration, µm/s²;
+ * entry, exit and peak, squared speeds, (µm/s)²; and the ramp: the lengths run speeding up, at
+ * the peak and braking, µm, which add up to the length.
+ *
+ * Refuses by 8. Accepted, it writes the memory, moves and numbers. */
+uint64_t fullerecru_take(uint64_t memory[FULLERECRU_NUMBERS], int64_t moves[FULLERECRU_MOVES],
+                         uint64_t numbers[FULLERECRU_GIVEN]);
+
+/* Tells how many blocks are held, 0 to 64. Refuses nothing and writes nothing. */
+uint64_t fullerecru_told(const uint64_t memory[FULLERECRU_NUMBERS]);
+
+/* Shows the plan: the squared speed, (µm/s)², at each junction of the blocks held, from the
+ * committed one at the first to 0 at the last. count must be the number told + 1.
+ *
+ * Refuses by 11. Accepted, it writes the count numbers of list; the planner stays as it is. */
+uint64_t fullerecru_shown(const uint64_t memory[FULLERECRU_NUMBERS], uint64_t *list, size_t count);
+
+/* The tape: 24 bytes of limits, then 16 bytes for each block. */
+
+/* Reads limits, in the order of fullerecru_fresh, from the first 24 bytes; later bytes play no
+ * part.
+ *
+ * Refuses by 9, then 1. Accepted, it writes limits. */
+uint64_t fullerecru_read_limits(const uint8_t *bytes, size_t count,
+                                uint64_t limits[FULLERECRU_LIMITS]);
+
+/* Writes limits into the first 24 of the lent bytes.
+ *
+ * Refuses by 1, then 9. Accepted, it writes those 24 bytes and no other. */
+uint64_t fullerecru_write_limits(const uint64_t limits[FULLERECRU_LIMITS], uint8_t *bytes,
+                                 size_t count);
+
+/* Reads one block from the first 16 bytes; later bytes play no part. moves: X, Y, Z, µm. numbers:
+ * feed, µm/s; radius, µm; mark.
+ *
+ * Refuses by 9, then 2, 3, 4, 5 in that order (every mark of a record is in its range). Accepted,
+ * it writes moves and numbers. */
+uint64_t fullerecru_read_record(const uint8_t *bytes, size_t count,
+                                int64_t moves[FULLERECRU_MOVES],
+                                uint64_t numbers[FULLERECRU_RECORD]);
+
+/* Writes one block, fields as for fullerecru_add, into the first 16 of the lent bytes: for record
+ * k, from 0, lend the tape from byte 24 + 16 * k on.
+ *
+ * Refuses by 2, 3, 4, 5, 6 in that order, then 9. Accepted, it writes those 16 bytes and no
+ * other. */
+uint64_t fullerecru_write_record(int64_t x, int64_t y, int64_t z, uint64_t feed, uint64_t radius,
+                                 uint64_t mark, uint8_t *bytes, size_t count);
+
+/* Plans a whole tape of 0 to 2,048 blocks from rest to rest: the squared speed, (µm/s)², at each
+ * junction. junctions, the size of list, must be the number of blocks + 1.
+ *
+ * Refuses by 10, 9, 1, then by the first record at fault (2, 3, 4, 5), then by 11. place[0] is
+ * written by every call: the place of the record at fault, counted from 1, else 0. Accepted, it
+ * also writes list. */
+uint64_t fullerecru_plan_tape(const uint8_t *tape, size_t count, uint64_t *list, size_t junctions,
+                              uint64_t place[1]);
+
+/* Runs a trace, a list of calls, on a planner of its own. The trace is 24 bytes of limits as on
+ * tape, then 28 bytes for each call: seven words of 32 bits, most significant byte first: kind (0
+ * is a take, any other an add), moves X, Y, Z in two's complement, feed, radius, mark. A take's
+ * other words play no part. numbers, the size of answers, must be 15 for each call; junctions,
+ * the size of plan, must be 65.
+ *
+ * Each call gets a row of 15 in answers: the number on the display; then, of a block given out,
+ * moves X, Y, Z in two's complement of 32 bits, feed, radius, mark, length, acceleration, entry,
+ * exit, peak, and the lengths run speeding up, at the peak and braking; else 14 zeros.
+ *
+ * Refuses by 9, 1, 11 in that order. Accepted, it writes answers, told[0] (the number of blocks
+ * held at the end), and the first told[0] + 1 numbers of plan: the plan of the blocks still held. */
+uint64_t fullerecru_replay(const uint8_t *trace, size_t count, uint64_t *answers, size_t numbers,
+                           uint64_t *plan, size_t junctions, uint64_t told[1]);
+
+#ifdef __cplusplus
+}
+#endif
+
+#endif

@@ -1,0 +1,191 @@
+//! The work that is measured, by each side on the same seeded blocks.
+
+use std::hint::black_box;
+
+use compare::library::*;
+use compare::words::limit_words;
+use reference::generate::{machine_m, short_steps, straight_steps};
+use reference::incremental::Planner;
+use reference::line::{LookAhead, PLACES};
+use reference::machine::Block;
+use reference::quick;
+use reference::tape::{Tape, MOST_BLOCKS};
+
+/// Whose code runs.
+#[derive(Clone, Copy, Debug)]
+pub enum Side {
+    Proved,
+    Reference,
+}
+
+/// What it runs over, on machine M.
+#[derive(Clone, Copy, Debug)]
+pub enum Path {
+    /// Random steps of 1 to 50 µm on each axis, feed 50,000 µm/s.
+    Short,
+    /// Steps of 1 to 5 µm straight on, feed 500,000 µm/s.
+    Straight,
+}
+
+impl Path {
+    fn blocks(self, count: usize) -> Vec<Block> {
+        match self {
+            Path::Short => short_steps(1, count),
+            Path::Straight => straight_steps(1, count),
+        }
+    }
+}
+
+/// What it does.
+#[derive(Clone, Copy, Debug)]
+pub enum Work {
+    /// One take and one add for each block, with 64 held.
+    Planner,
+    /// The plan of tapes of 2,048 blocks.
+    Tape,
+}
+
+impl Work {
+    /// Name of the function that does it.
+    pub fn function(self, side: Side) -> &'static str {
+        match (self, side) {
+            (Work::Planner, Side::Proved) => "feed_proved",
+            (Work::Planner, Side::Reference) => "feed_reference",
+            (Work::Tape, Side::Proved) => "plan_proved",
+            (Work::Tape, Side::Reference) => "plan_reference",
+        }
+    }
+}
+
+/// Work on a path that is ready to be run by one side.
+pub enum Ready {
+    FeedProved(Vec<u64>, Vec<Block>),
+    FeedReference(Box<Planner>, Vec<Block>),
+    PlanProved(Vec<u8>, usize),
+    PlanReference(Tape, usize),
+}
+
+impl Ready {
+    /// Prepares the work for `count` blocks; those of tapes are rounded up to
+    /// whole tapes.
+    pub fn new(work: Work, side: Side, path: Path, count: usize) -> Ready {
+        let limits = machine_m();
+        match (work, side) {
+            (Work::Planner, side) => {
+                let mut blocks = path.blocks(PLACES + count);
+                let rest = blocks.split_off(PLACES);
+                match side {
+                    Side::Proved => Ready::FeedProved(filled_memory(&blocks), rest),
+                    Side::Reference => Ready::FeedReference(filled_planner(&blocks), rest),
+                }
+            }
+            (Work::Tape, side) => {
+                let blocks = path.blocks(MOST_BLOCKS);
+                let (tape, runs) = (Tape { limits, blocks }, count.div_ceil(MOST_BLOCKS));
+                match side {
+                    Side::Proved => Ready::PlanProved(tape.pack(), runs),
+                    Side::Reference => Ready::PlanReference(tape, runs),
+                }
+            }
+        }
+    }
+
+    /// How many blocks a run works on.
+    pub fn blocks(&self) -> usize {
+        match self {
+            Ready::FeedProved(_, blocks) | Ready::FeedReference(_, blocks) => blocks.len(),
+            Ready::PlanProved(_, runs) | Ready::PlanReference(_, runs) => runs * MOST_BLOCKS,
+        }
+    }
+
+    /// Runs it and gives the sum of the squared speeds found, (µm/s)²: the
+    /// exits of the blocks taken, or every number of each plan.
+    pub fn run(&mut self) -> u64 {
+        match self {
+            Ready::FeedProved(memory, blocks) => feed_proved(memory, blocks),
+            Ready::FeedReference(planner, blocks) => feed_reference(planner, blocks),
+            Ready::PlanProved(tape, runs) => plan_proved(tape, *runs),
+            Ready::PlanReference(tape, runs) => plan_reference(tape, *runs),
+        }
+    }
+}
+
+/// A proved planner that holds the blocks.
+fn filled_memory(blocks: &[Block]) -> Vec<u64> {
+    let mut memory = vec![0; NUMBERS];
+    let limits = limit_words(&machine_m());
+    let mut number = unsafe { fullerecru_fresh(memory.as_mut_ptr(), limits.as_ptr()) };
+    for block in blocks {
+        number |= add(&mut memory, block);
+    }
+    assert_eq!(number, 0, "limits and blocks that pass");
+    memory
+}
+
+/// The reference's planner that holds the blocks.
+fn filled_planner(blocks: &[Block]) -> Box<Planner> {
+    let mut planner = Box::new(Planner::fresh(&machine_m()).expect("machine M passes"));
+    for block in blocks {
+        planner.add(block).expect("a block that passes");
+    }
+    planner
+}
+
+fn add(memory: &mut [u64], block: &Block) -> u64 {
+    let [x, y, z] = block.moves;
+    let memory = memory.as_mut_ptr();
+    unsafe { fullerecru_add(memory, x, y, z, block.feed, block.radius, block.mark) }
+}
+
+/// Place of the exit squared speed among the numbers of a block given out.
+const EXIT: usize = 6;
+
+#[inline(never)]
+fn feed_proved(memory: &mut [u64], blocks: &[Block]) -> u64 {
+    let (mut moves, mut numbers) = ([0; 3], [0; 11]);
+    let mut sum = 0;
+    for block in blocks {
+        let lent = (moves.as_mut_ptr(), numbers.as_mut_ptr());
+        unsafe { fullerecru_take(memory.as_mut_ptr(), lent.0, lent.1) };
+        sum += numbers[EXIT];
+        add(memory, block);
+    }
+    sum
+}
+
+#[inline(never)]
+fn feed_reference(planner: &mut Planner, blocks: &[Block]) -> u64 {
+    let mut sum = 0;
+    for block in blocks {
+        sum += black_box(planner.take()).map_or(0, |given| given.exit);
+        let _ = black_box(planner.add(black_box(block)));
+    }
+    sum
+}
+
+/// From the tape's bytes to the plan.
+#[inline(never)]
+fn plan_proved(tape: &[u8], runs: usize) -> u64 {
+    let mut list = [0; MOST_BLOCKS + 1];
+    let mut place = [0];
+    let mut sum = 0;
+    for _ in 0..runs {
+        let lent = (list.as_mut_ptr(), list.len());
+        let at = place.as_mut_ptr();
+        let number = unsafe { fullerecru_plan_tape(tape.as_ptr(), tape.len(), lent.0, lent.1, at) };
+        assert_eq!(number, 0, "a tape that passes");
+        sum += black_box(&list).iter().sum::<u64>();
+    }
+    sum
+}
+
+/// From blocks that are read and checked already to the plan.
+#[inline(never)]
+fn plan_reference(tape: &Tape, runs: usize) -> u64 {
+    let mut sum = 0;
+    for _ in 0..runs {
+        let plan = quick::plan_of(&black_box(tape).limits, &tape.blocks);
+        sum += black_box(plan).expect("a plan").iter().sum::<u64>();
+    }
+    sum
+}

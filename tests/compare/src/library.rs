@@ -1,0 +1,57 @@
+//! The functions of libfullerecru.a, as include/fullerecru.h says.
+
+/// Numbers of a planner's memory.
+pub const NUMBERS: usize = 780;
+/// Numbers of a trace's row, and of the list for its plan.
+pub const ROW: usize = 15;
+pub const PLAN: usize = 65;
+
+extern "C" {
+    pub fn fullerecru_fresh(memory: *mut u64, limits: *const u64) -> u64;
+    pub fn fullerecru_add(
+        memory: *mut u64,
+        x: i64,
+        y: i64,
+        z: i64,
+        feed: u64,
+        radius: u64,
+        mark: u64,
+    ) -> u64;
+    pub fn fullerecru_take(memory: *mut u64, moves: *mut i64, numbers: *mut u64) -> u64;
+    pub fn fullerecru_told(memory: *const u64) -> u64;
+    pub fn fullerecru_shown(memory: *const u64, list: *mut u64, count: usize) -> u64;
+    pub fn fullerecru_read_limits(bytes: *const u8, count: usize, limits: *mut u64) -> u64;
+    pub fn fullerecru_write_limits(limits: *const u64, bytes: *mut u8, count: usize) -> u64;
+    pub fn fullerecru_read_record(
+        bytes: *const u8,
+        count: usize,
+        moves: *mut i64,
+        numbers: *mut u64,
+    ) -> u64;
+    pub fn fullerecru_write_record(
+        x: i64,
+        y: i64,
+        z: i64,
+        feed: u64,
+        radius: u64,
+        mark: u64,
+        bytes: *mut u8,
+        count: usize,
+    ) -> u64;
+    pub fn fullerecru_plan_tape(
+        tape: *const u8,
+        count: usize,
+        list: *mut u64,
+        junctions: usize,
+        place: *mut u64,
+    ) -> u64;
+    pub fn fullerecru_replay(
+        trace: *const u8,
+        count: usize,
+        answers: *mut u64,
+        numbers: usize,
+        plan: *mut u64,
+        junctions: usize,
+        told: *mut u64,
+    ) -> u64;
+}

@@ -1,0 +1,90 @@
+//! The programs planlist and planreplay.
+
+use std::env;
+use std::io::{Read, Write};
+use std::path::PathBuf;
+use std::process::{Child, Command, Stdio};
+use std::thread;
+use std::time::{Duration, Instant};
+
+/// Longest time that one run may take.
+const PATIENCE: Duration = Duration::from_secs(20);
+
+/// The program that an environment variable names, else the one of the name
+/// that the project has built.
+fn path(variable: &str, name: &str) -> PathBuf {
+    match env::var_os(variable) {
+        Some(path) => PathBuf::from(path),
+        None => PathBuf::from(env!("CARGO_MANIFEST_DIR"))
+            .join("../../target/bin")
+            .join(name),
+    }
+}
+
+/// planlist, or what PLANLIST names.
+pub fn planlist() -> PathBuf {
+    path("PLANLIST", "planlist")
+}
+
+/// planreplay, or what PLANREPLAY names.
+pub fn planreplay() -> PathBuf {
+    path("PLANREPLAY", "planreplay")
+}
+
+/// Starts the program with its input and output.
+pub fn start(program: &PathBuf, input: Stdio, output: Stdio) -> Child {
+    let mut command = Command::new(program);
+    command
+        .stdin(input)
+        .stdout(output)
+        .spawn()
+        .unwrap_or_else(|error| panic!("{}: {error}", program.display()))
+}
+
+/// What the program writes until it ends by itself; panics if it does not end
+/// in time or ends with another status than 0.
+pub fn text_of(mut child: Child) -> String {
+    let mut output = child.stdout.take().expect("piped");
+    let reader = thread::spawn(move || {
+        let mut text = String::new();
+        output.read_to_string(&mut text).map(|_| text)
+    });
+    let begin = Instant::now();
+    let mut pause = Duration::from_micros(100);
+    let status = loop {
+        if let Some(status) = child.try_wait().expect("a child that runs") {
+            break status;
+        }
+        if begin.elapsed() > PATIENCE {
+            let _ = child.kill();
+            panic!("the program does not end");
+        }
+        thread::sleep(pause);
+        pause = (pause * 2).min(Duration::from_millis(5));
+    };
+    let text = reader.join().expect("no panic").expect("text");
+    assert!(status.success(), "{status} after {text:?}");
+    text
+}
+
+/// What the program writes for an input that comes in pieces of some bytes.
+pub fn run_in_pieces(program: &PathBuf, input: &[u8], piece: usize) -> String {
+    let mut child = start(program, Stdio::piped(), Stdio::piped());
+    let mut pipe = child.stdin.take().expect("piped");
+    let input = input.to_vec();
+    // a program that has seen enough closes the pipe: that ends the writing
+    let writer = thread::spawn(move || {
+        let pieces = input.chunks(piece.max(1));
+        pieces
+            .take_while(|part| pipe.write_all(part).is_ok())
+            .count()
+    });
+    let text = text_of(child);
+    writer.join().expect("no panic");
+    text
+}
+
+/// What the program writes for an input.
+pub fn run(program: &PathBuf, input: &[u8]) -> String {
+    run_in_pieces(program, input, usize::MAX)
+}

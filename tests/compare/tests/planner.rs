@@ -1,0 +1,207 @@
+//! The planner on lent memory, call by call.
+
+use std::collections::BTreeSet;
+
+use compare::library::NUMBERS;
+use compare::proved::Planner;
+use compare::words::{any_block, any_limits, any_word};
+use compare::{hex, report, same, Trying};
+use reference::generate::*;
+use reference::incremental;
+use reference::line::{Line, LookAhead};
+use reference::machine::Limits;
+use reference::refusal::Refusal;
+use reference::rng::Rng;
+use reference::trace::{pack_call, pack_trace, Call};
+
+/// The answer to a call: what a take gives, or nothing for an add.
+type Answer = Result<Option<reference::machine::Given>, Refusal>;
+
+fn answer<P: LookAhead>(planner: &mut P, call: &Call) -> Answer {
+    match call {
+        Call::Take => planner.take().map(Some),
+        Call::Add(block) => planner.add(block).map(|()| None),
+    }
+}
+
+/// The plan in a list of a length, and the answer.
+fn plan<P: LookAhead>(planner: &P, length: usize) -> (Result<(), Refusal>, Vec<u64>) {
+    let mut list = vec![77; length];
+    (planner.shown(&mut list), list)
+}
+
+/// Runs the calls through the proved planner and another, comparing answers,
+/// numbers told and plans shown in lists of right and of wrong length. Gives
+/// the numbers on the display that were met.
+fn compare_with<P: LookAhead>(seed: u64, limits: &Limits, calls: &[Call]) -> BTreeSet<u64> {
+    let mut rng = Rng::new(seed);
+    let mut met = BTreeSet::new();
+    let mut proved = Planner::fresh(limits).expect("limits that pass");
+    let mut other = P::fresh(limits).expect("limits that pass");
+    for (place, call) in calls.iter().enumerate() {
+        let input = || format!("{} at call {place}", hex(&pack_trace(limits, calls)));
+        let expected = answer(&mut other, call);
+        met.insert(expected.map_or_else(|refusal| refusal.number(), |_| 0));
+        same(seed, input, answer(&mut proved, call), expected);
+        same(seed, input, proved.told(), other.told());
+        if rng.once_in(8) || place + 1 == calls.len() {
+            let right = other.told() + 1;
+            same(seed, input, plan(&proved, right), plan(&other, right));
+            let wrong = (right + rng.within(1, 70) as usize) % 71;
+            same(seed, input, plan(&proved, wrong), plan(&other, wrong));
+        }
+    }
+    met
+}
+
+#[test]
+fn every_call_is_answered_as_the_line_of_blocks_says() {
+    let (mut met, mut count) = (BTreeSet::new(), 0);
+    for seed in 0..3_000 {
+        let _trying = Trying(seed);
+        let mut rng = Rng::new(seed);
+        let limits = limits(&mut rng);
+        let length = rng.within(1, 300) as usize;
+        let calls = calls(&mut rng, length);
+        count += calls.len();
+        met.extend(compare_with::<Line>(seed, &limits, &calls));
+    }
+    assert_eq!(met, BTreeSet::from([0, 2, 3, 4, 5, 6, 7, 8]));
+    report(count, "calls against the line of blocks");
+}
+
+/// The ring of places goes round hundreds of times.
+#[test]
+fn long_runs_are_answered_as_the_other_planner_answers() {
+    let mut count = 0;
+    for seed in 0..8 {
+        let _trying = Trying(seed);
+        let mut rng = Rng::new(seed);
+        let limits = limits(&mut rng);
+        let calls = calls(&mut rng, 60_000);
+        count += calls.len();
+        compare_with::<incremental::Planner>(seed, &limits, &calls);
+    }
+    report(count, "calls of long runs");
+}
+
+/// Both bench paths, with each number of blocks held from 1 to 64.
+#[test]
+fn each_number_of_blocks_held_gives_the_same_speeds() {
+    let mut count = 0;
+    for held in 1..=64 {
+        let _trying = Trying(held);
+        for blocks in [short_steps(held, 300), straight_steps(held, 300)] {
+            let (first, rest) = blocks.split_at(held as usize);
+            let mut list: Vec<Call> = first.iter().map(|b| Call::Add(*b)).collect();
+            list.extend(rest.iter().flat_map(|b| [Call::Take, Call::Add(*b)]));
+            count += list.len();
+            compare_with::<Line>(held, &machine_m(), &list);
+        }
+    }
+    report(count, "calls with 1 to 64 held");
+}
+
+/// Limits at and beyond the ends of their ranges, and of any words.
+#[test]
+fn fresh_planners_are_made_from_the_same_limits() {
+    let mut made = 0;
+    for seed in 0..20_000 {
+        let _trying = Trying(seed);
+        let mut rng = Rng::new(seed);
+        let limits = match rng.below(4) {
+            0 => any_limits(&mut rng),
+            1 => faulty_limits(&mut rng),
+            _ => limits(&mut rng),
+        };
+        let expected = Line::fresh(&limits).map(|line| line.profile());
+        let proved = Planner::fresh(&limits);
+        made += usize::from(proved.is_ok());
+        let shown = proved.map(|planner| {
+            assert_eq!(planner.told(), 0);
+            plan(&planner, 1).1
+        });
+        same(seed, || format!("{limits:?}"), shown, expected);
+    }
+    assert!(made > 5_000, "{made}");
+    report(20_000, "fresh planners");
+}
+
+/// Blocks of any 64-bit words are refused alike, also by a full planner, and
+/// leave the memory as it was (the call itself sees to that).
+#[test]
+fn adds_of_any_words_are_answered_alike() {
+    let mut count = 0;
+    for seed in 0..200 {
+        let _trying = Trying(seed);
+        let mut rng = Rng::new(seed);
+        let mut proved = Planner::fresh(&machine_m()).expect("machine M passes");
+        let mut line = Line::fresh(&machine_m()).expect("machine M passes");
+        for block in short_steps(seed, rng.within(0, 64) as usize) {
+            proved.add(&block).expect("room");
+            line.add(&block).expect("room");
+        }
+        for _ in 0..200 {
+            let block = any_block(&mut rng);
+            let expected = line.add(&block);
+            same(seed, || format!("{block:?}"), proved.add(&block), expected);
+            count += 1;
+        }
+        same(seed, String::new, proved.told(), line.told());
+    }
+    report(count, "adds of any words");
+}
+
+/// Two planners run in turn, one of them moved to other memory each time: a
+/// planner is its 780 numbers and nothing else.
+#[test]
+fn planners_do_not_disturb_one_another() {
+    let mut count = 0;
+    for seed in 0..100 {
+        let _trying = Trying(seed);
+        let mut rng = Rng::new(seed);
+        let both = [limits(&mut rng), limits(&mut rng)];
+        let lists = [calls(&mut rng, 200), calls(&mut rng, 200)];
+        let mut lines = both.map(|l| Line::fresh(&l).expect("limits that pass"));
+        let mut planners = both.map(|l| Planner::fresh(&l).expect("limits that pass"));
+        for (first, second) in lists[0].iter().zip(&lists[1]) {
+            for (i, call) in [first, second].into_iter().enumerate() {
+                let expected = answer(&mut lines[i], call);
+                let found = answer(&mut planners[i], call);
+                same(seed, || hex(&pack_call(call)), found, expected);
+                count += 1;
+            }
+            let memory: [u64; NUMBERS] = planners[1].memory().try_into().expect("780 numbers");
+            planners[1] = Planner::of_memory(&memory);
+        }
+    }
+    report(count, "calls on two planners");
+}
+
+/// On memory that no planner made, every call returns a number of its own and
+/// writes nothing beside what is lent.
+#[test]
+fn memory_of_noise_is_no_danger() {
+    let mut count = 0;
+    for seed in 0..4_000 {
+        let _trying = Trying(seed);
+        let mut rng = Rng::new(seed);
+        let memory = [(); NUMBERS].map(|_| any_word(&mut rng));
+        let mut planner = Planner::of_memory(&memory);
+        for call in calls(&mut rng, 20) {
+            let refused = answer(&mut planner, &call).err().map(|r| r.number());
+            let own = match call {
+                Call::Take => refused.is_none_or(|number| number == 8),
+                Call::Add(_) => refused.is_none_or(|number| (2..=7).contains(&number)),
+            };
+            assert!(own, "seed {seed}: {call:?} refused by {refused:?}");
+            let held = planner.told();
+            if held <= 64 {
+                let shown = plan(&planner, held + 1).0;
+                assert_eq!(shown, Ok(()), "seed {seed}");
+            }
+            count += 1;
+        }
+    }
+    report(count, "calls on memory of noise");
+}

@@ -1,0 +1,196 @@
+//! The programs planlist and planreplay write what the reference writes.
+
+use std::fs::File;
+use std::io::Write;
+use std::process::Stdio;
+
+use compare::programs::{planlist, planreplay, run, run_in_pieces, start, text_of};
+use compare::{hex, report, same};
+use reference::examples::{example, example_trace, NAMES, TRACE_NAMES};
+use reference::generate::*;
+use reference::incremental::Planner;
+use reference::listing;
+use reference::machine::{Block, Limits};
+use reference::rng::Rng;
+use reference::tape::{Tape, MOST_BLOCKS, MOST_BYTES};
+use reference::trace::{pack_trace, Call};
+
+/// Limits at the ends of their ranges: everything slowest, everything fastest.
+const ENDS: [Limits; 2] = [
+    Limits {
+        accel: [1; 3],
+        speed: [1; 3],
+        jump: 1,
+        chord: 1,
+        tick: 10_000,
+    },
+    Limits {
+        accel: [20_000_000; 3],
+        speed: [1_000_000; 3],
+        jump: 1_000_000,
+        chord: 1_000,
+        tick: 100,
+    },
+];
+
+fn compare_list(seed: u64, tape: &[u8]) {
+    let text = run(&planlist(), tape);
+    same(seed, || hex(tape), text, listing::planlist(tape));
+}
+
+fn compare_replay(seed: u64, trace: &[u8]) {
+    let text = run(&planreplay(), trace);
+    same(seed, || hex(trace), text, listing::planreplay(trace));
+}
+
+/// The longest moves in every direction, fastest, the radius at both ends.
+fn far_blocks(count: usize) -> Vec<Block> {
+    let side = |k: usize, axis: u32| 1_000_000 * (k / 3usize.pow(axis) % 3) as i64 - 1_000_000;
+    let block = |k: usize| Block {
+        moves: [
+            side(k, 0),
+            side(k, 1),
+            if k % 27 == 13 { 1 } else { side(k, 2) },
+        ],
+        feed: 1_000_000,
+        radius: [0, 1, 10_000_000][k % 3],
+        mark: 2_097_151 - k as u64,
+    };
+    (0..count).map(block).collect()
+}
+
+#[test]
+fn planlist_lists_accepted_tapes() {
+    for seed in 0..400 {
+        compare_list(seed, &tape(&mut Rng::new(seed)));
+    }
+    for name in NAMES {
+        compare_list(0, &example(name).expect("an example").pack());
+    }
+    report(400 + NAMES.len(), "tapes listed");
+}
+
+#[test]
+fn planlist_refuses_faulty_tapes() {
+    for seed in 0..600 {
+        compare_list(seed, &faulty_tape(&mut Rng::new(seed)));
+    }
+    report(600, "faulty tapes");
+}
+
+#[test]
+fn planlist_answers_extreme_machines() {
+    let mut count = 0;
+    for limits in ENDS {
+        for blocks in [
+            far_blocks(MOST_BLOCKS),
+            straight_steps(3, MOST_BLOCKS),
+            short_steps(3, 100),
+            vec![],
+        ] {
+            compare_list(count, &Tape { limits, blocks }.pack());
+            count += 1;
+        }
+    }
+    report(count as usize, "tapes of extreme machines");
+}
+
+#[test]
+fn planlist_answers_empty_ragged_and_noisy_input() {
+    let whole = example("to-and-fro").expect("an example").pack();
+    for length in 0..60 {
+        compare_list(length, &whole[..length as usize]);
+    }
+    for seed in 0..100 {
+        let mut rng = Rng::new(seed);
+        let count = rng.spread(0, 40_000);
+        let noise: Vec<u8> = (0..count).map(|_| rng.word() as u8).collect();
+        compare_list(seed, &noise);
+    }
+    for length in [
+        MOST_BYTES - 1,
+        MOST_BYTES,
+        MOST_BYTES + 1,
+        MOST_BYTES + 16,
+        300_000,
+    ] {
+        compare_list(length as u64, &vec![0; length]);
+    }
+    report(165, "empty, ragged and noisy inputs");
+}
+
+/// A tape too long is refused without reading it to its end.
+#[test]
+fn planlist_ends_on_endless_input() {
+    let zeros = File::open("/dev/zero").expect("/dev/zero");
+    let text = text_of(start(&planlist(), Stdio::from(zeros), Stdio::piped()));
+    assert_eq!(text, "refused 10 at 0\n");
+    let mut child = start(&planlist(), Stdio::piped(), Stdio::piped());
+    let mut pipe = child.stdin.take().expect("piped");
+    let tape = example("mould-row").expect("an example").pack();
+    // until planlist has closed the pipe, which stays open on this side
+    let taken = (0..2_000).take_while(|_| pipe.write_all(&tape).is_ok());
+    assert!(taken.count() < 2_000, "planlist reads on and on");
+    assert_eq!(text_of(child), "refused 10 at 0\n");
+    report(2, "endless inputs");
+}
+
+#[test]
+fn programs_take_input_in_pieces() {
+    let tape = example("mould-row").expect("an example").pack();
+    let trace = example_trace("shop-traffic").expect("an example");
+    for piece in [1, 7, 100, 4_096] {
+        let text = run_in_pieces(&planlist(), &tape, piece);
+        assert_eq!(text, listing::planlist(&tape), "pieces of {piece}");
+        let text = run_in_pieces(&planreplay(), &trace, piece);
+        assert_eq!(text, listing::planreplay(&trace), "pieces of {piece}");
+    }
+    report(8, "inputs in pieces");
+}
+
+#[test]
+fn planreplay_answers_traces() {
+    for seed in 0..600 {
+        compare_replay(seed, &trace(&mut Rng::new(seed)));
+    }
+    for name in TRACE_NAMES {
+        compare_replay(0, &example_trace(name).expect("an example"));
+    }
+    report(600 + TRACE_NAMES.len(), "traces replayed");
+}
+
+#[test]
+fn planreplay_answers_extreme_machines() {
+    let mut count = 0;
+    for limits in ENDS {
+        for blocks in [far_blocks(200), straight_steps(3, 200), short_steps(3, 200)] {
+            let mut calls: Vec<Call> = blocks[..70].iter().map(|b| Call::Add(*b)).collect();
+            let rest = blocks[70..].iter();
+            calls.extend(rest.flat_map(|b| [Call::Take, Call::Add(*b)]));
+            compare_replay(count, &pack_trace(&limits, &calls));
+            count += 1;
+        }
+    }
+    report(count as usize, "traces of extreme machines");
+}
+
+#[test]
+fn planreplay_answers_empty_and_ragged_input() {
+    let whole = example_trace("shop-traffic").expect("an example");
+    for length in 0..110 {
+        compare_replay(length, &whole[..length as usize]);
+    }
+    compare_replay(0, &[0; 24]);
+    report(111, "empty and ragged traces");
+}
+
+/// A trace far longer than any buffer.
+#[test]
+fn planreplay_runs_a_long_trace() {
+    let mut rng = Rng::new(9);
+    let limits = limits(&mut rng);
+    let trace = pack_trace(&limits, &calls(&mut rng, 100_000));
+    let text = run(&planreplay(), &trace);
+    assert!(text == listing::planreplay_by::<Planner>(&trace));
+    report(100_000, "calls of a long trace");
+}

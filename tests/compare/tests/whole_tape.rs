@@ -1,0 +1,104 @@
+//! The plan of a whole tape.
+
+use std::collections::BTreeSet;
+
+use compare::{hex, proved, report, same, Trying};
+use reference::examples::{example, NAMES};
+use reference::generate::{faulty_tape, machine_m, short_steps, straight_steps, tape};
+use reference::refusal::Fault;
+use reference::rng::Rng;
+use reference::tape::{self, read_tape, Tape, MOST_BLOCKS};
+
+/// The answer and what the list holds after it, from a list of 77s.
+type Planned = (Result<(), Fault>, Vec<u64>);
+
+fn planned(
+    plan: impl Fn(&[u8], &mut [u64]) -> Result<(), Fault>,
+    tape: &[u8],
+    n: usize,
+) -> Planned {
+    let mut list = vec![77; n];
+    (plan(tape, &mut list), list)
+}
+
+/// Compares both on a list of `n` numbers; gives the number on the display.
+fn compare_in(seed: u64, bytes: &[u8], n: usize) -> u64 {
+    let expected = planned(tape::plan_tape, bytes, n);
+    let number = expected
+        .0
+        .map_or_else(|fault| fault.refusal.number(), |()| 0);
+    let input = || format!("{} in {n} numbers", hex(bytes));
+    same(seed, input, planned(proved::plan_tape, bytes, n), expected);
+    number
+}
+
+/// Compares both on a list of the right length and on a wrong one.
+fn compare_both(seed: u64, rng: &mut Rng, bytes: &[u8]) -> [u64; 2] {
+    let right = bytes.len().saturating_sub(24) / 16 + 1;
+    let wrong = (right + rng.within(1, 9) as usize) % (right + 5);
+    [right, wrong].map(|n| compare_in(seed, bytes, n))
+}
+
+#[test]
+fn accepted_tapes_have_the_same_plan() {
+    let (mut met, mut count) = (BTreeSet::new(), 0);
+    for seed in 0..4_000 {
+        let _trying = Trying(seed);
+        let mut rng = Rng::new(seed);
+        let bytes = tape(&mut rng);
+        met.extend(compare_both(seed, &mut rng, &bytes));
+        count += 2;
+    }
+    assert_eq!(met, BTreeSet::from([0, 11]));
+    report(count, "accepted tapes");
+}
+
+/// Refusals with their places, one or two faults at once, lists of right and
+/// wrong length.
+#[test]
+fn faulty_tapes_have_the_same_refusal_and_place() {
+    let (mut met, mut count) = (BTreeSet::new(), 0);
+    for seed in 0..8_000 {
+        let _trying = Trying(seed);
+        let mut rng = Rng::new(seed);
+        let bytes = faulty_tape(&mut rng);
+        met.extend(compare_both(seed, &mut rng, &bytes));
+        count += 2;
+    }
+    assert_eq!(met, BTreeSet::from([0, 1, 2, 3, 4, 5, 9, 10, 11]));
+    report(count, "faulty tapes");
+}
+
+/// Each length of an accepted tape, byte by byte, and around the longest.
+#[test]
+fn cut_and_lengthened_tapes_are_answered_alike() {
+    let blocks = short_steps(7, MOST_BLOCKS + 2);
+    let limits = machine_m();
+    let bytes = Tape { limits, blocks }.pack();
+    let most = 24 + 16 * MOST_BLOCKS;
+    let lengths = (0..200).chain(most - 40..=most + 32);
+    let mut count = 0;
+    for length in lengths {
+        let right = length.saturating_sub(24) / 16 + 1;
+        for n in [right, right - 1, right + 1] {
+            compare_in(length as u64, &bytes[..length], n);
+            count += 1;
+        }
+    }
+    report(count, "cut tapes");
+}
+
+#[test]
+fn examples_and_longest_tapes_have_the_same_plan() {
+    let mut tapes: Vec<Tape> = NAMES.iter().filter_map(|name| example(name)).collect();
+    for blocks in [short_steps(1, MOST_BLOCKS), straight_steps(1, MOST_BLOCKS)] {
+        let limits = machine_m();
+        tapes.push(Tape { limits, blocks });
+    }
+    for (k, tape) in tapes.iter().enumerate() {
+        let bytes = tape.pack();
+        assert_eq!(read_tape(&bytes).as_ref(), Ok(tape));
+        assert_eq!(compare_in(k as u64, &bytes, tape.blocks.len() + 1), 0);
+    }
+    report(tapes.len(), "example and longest tapes");
+}
