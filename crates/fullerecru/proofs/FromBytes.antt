@@ -10,7 +10,8 @@ use Rattle.machine.specs.declared.Limits.{Limits}
 use Rattle.tape.specs.Tape.{limitsAt, blockAt}
 use Rattle.tape.specs.Display.{given, refused, limitsReadRefusal, readLimits, recordReadRefusal, readRecord, Wrote}
 use Rattle.tape.proofs.Answers.{at-zero, above-zero, given-is, refused-is}
-use Rattle.fullerecru.specs.Tapes.{limitsList, blockMoves, blockNumbers, PutBlock, LimitsLent, RecordLent, Written}
+use Rattle.fullerecru.specs.Moves.{blockMoves}
+use Rattle.fullerecru.specs.Tapes.{limitsList, blockNumbers, PutBlock, LimitsLent, RecordLent, Written}
 
 module _ (bytes : List ℕ) where
   -- Limits, given or refused,

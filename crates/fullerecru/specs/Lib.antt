@@ -1,4 +1,5 @@
 -- What the functions for C promise.
+pub mod Moves
 pub mod Planners
 pub mod Tapes
 pub mod Plans

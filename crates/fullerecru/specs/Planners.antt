@@ -13,6 +13,7 @@ use Rattle.line.specs.Ring.{ringAnswer, ringAfter, showRefusal}
 use Rattle.line.specs.declared.Given.{Given}
 use Rattle.planner.specs.Calls.{shownList}
 use Rattle.planner.specs.View.{memorySize, viewOf}
+use Rattle.fullerecru.specs.Moves.{blockMoves}
 
 -- the number on the display; 0 says accepted
 abbrev pub answerNumber : Answer → ℕ
@@ -22,7 +23,7 @@ answerNumber (refused n) = n
 
 -- the moves of a block given out, µm, and its other numbers
 abbrev pub movesFor : Given → List ℤ
-movesFor g = g .block .x ∷ g .block .y ∷ g .block .z ∷ []
+movesFor g = blockMoves (g .block)
 
 abbrev pub givenNumbers : Given → List ℕ
 givenNumbers g =

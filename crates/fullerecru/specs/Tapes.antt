@@ -8,15 +8,13 @@ use Rattle.machine.specs.declared.Limits.{Limits}
 use Rattle.planner.specs.View.{limitNumbers}
 use Rattle.tape.specs.Tape.{limitsAt, blockAt}
 use Rattle.tape.specs.Display.{byNumber, limitsReadRefusal, recordReadRefusal}
+use Rattle.fullerecru.specs.Moves.{blockMoves}
 
 -- limits as nine numbers
 abbrev pub limitsList : Limits → List ℕ
 limitsList l = limitNumbers l []
 
--- the moves of a block, µm, and its other numbers
-abbrev pub blockMoves : Block → List ℤ
-blockMoves b = b .x ∷ b .y ∷ b .z ∷ []
-
+-- the numbers of a block beside its moves
 abbrev pub blockNumbers : Block → List ℕ
 blockNumbers b = b .feed ∷ b .radius ∷ b .mark ∷ []
 

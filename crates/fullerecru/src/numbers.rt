@@ -1,13 +1,16 @@
-// The number on the display of a check's answer, and limits as nine numbers.
+// What the functions for C share: the number of a check's answer, limits as nine numbers, moves as three.
 ghost use mathlib.Core.Path.{_≡_};
 ghost use lib.ListN.{length};
 ghost use Rattle.machine.specs.Checks.{checkedNumber};
 ghost use Rattle.planner.specs.View.{limitsFrom};
+ghost use Rattle.fullerecru.specs.Moves.{blockMoves};
 use machine::Axes;
+use machine::Block;
 use machine::Checked;
 use machine::Limits;
 use machine::check::refusal_number;
 
+// The number on the display of a check's answer.
 pub fn checked_number(c: Checked) -> u64
     ensures { λ r. ⌜ r ≡ checkedNumber c ⌝ }
 {
@@ -39,4 +42,17 @@ pub fn limits_of(list: &[u64]) -> Limits
         chord: list[7],
         tick: list[8],
     }
+}
+
+// Stores the moves of a block, µm.
+pub fn put_moves(b: Block, moves: &mut [i64])
+    requires { ⌜ length (now moves) ≡ 3 ⌝ }
+    ensures { λ r. ⌜ now (moves .exit) ≡ blockMoves b ⌝ }
+{
+    let x = b.x;
+    let y = b.y;
+    let z = b.z;
+    moves[0] = x;
+    moves[1] = y;
+    moves[2] = z;
 }

@@ -9,6 +9,7 @@ ghost use Rattle.fullerecru.specs.Planners.{Exported, Gave, Lent, Listed
 ghost use Rattle.planner.specs.View.{limitsFrom};
 use crate::numbers::checked_number;
 use crate::numbers::limits_of;
+use crate::numbers::put_moves;
 use line::AddAnswer;
 use line::Given;
 use line::ShowAnswer;
@@ -22,6 +23,7 @@ use planner::shown;
 use planner::take;
 use planner::told;
 
+// The number on the display of an add's answer.
 fn added_number(a: AddAnswer) -> u64
     ensures { λ r. ⌜ r ≡ answerNumber (addMeans a) ⌝ }
 {
@@ -31,6 +33,7 @@ fn added_number(a: AddAnswer) -> u64
     }
 }
 
+// The number on the display of what showing the plan answers.
 fn shown_number(a: ShowAnswer) -> u64
     ensures { λ r. ⌜ r ≡ answerNumber (showMeans a) ⌝ }
 {
@@ -47,12 +50,7 @@ fn hand_out(g: Given, moves: &mut [i64], numbers: &mut [u64])
 {
     let b = g.block;
     let ramp = g.ramp;
-    let x = b.x;
-    let y = b.y;
-    let z = b.z;
-    moves[0] = x;
-    moves[1] = y;
-    moves[2] = z;
+    put_moves(b, moves);
     numbers[0] = b.feed;
     numbers[1] = b.radius;
     numbers[2] = b.mark;

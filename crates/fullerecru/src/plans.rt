@@ -20,8 +20,8 @@ fn put_number(list: &mut [u64], n: u64)
 
 // Plans a whole tape from rest to rest: the list gets the highest lawful profile, one number for each
 // junction, (µm/s)², and is one longer than the tape has records. Refuses by 10, 9, 1, each record in
-// turn by 2 to 6, then by 11, and then the list stays as it was. The place is that of the record at
-// fault, counted from 1, or 0 where no record is at fault.
+// turn by 2 to 5 (every mark of a record is in its range), then by 11, and then the list stays as it
+// was. The place is that of the record at fault, counted from 1, or 0 where no record is at fault.
 #[no_mangle]
 pub extern "C" fn fullerecru_plan_tape(tape: &[u8], list: &mut [u64], place: &mut [u64; 1]) -> u64
     ensures { λ r. ⌜ PlanLent (now (tape .entry)) r (now (list .entry)) (now (list .exit)) (now (place .exit)) ⌝ }

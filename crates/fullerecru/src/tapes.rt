@@ -6,6 +6,7 @@ ghost use Rattle.tape.specs.Display.{limitsWriteRefusal, limitsWritten, recordW
 ghost use Rattle.fullerecru.specs.Tapes.{LimitsLent, PutBlock, RecordLent, Written, limitsList};
 use crate::numbers::checked_number;
 use crate::numbers::limits_of;
+use crate::numbers::put_moves;
 use machine::Block;
 use machine::Limits;
 use machine::check::refusal_number;
@@ -39,12 +40,7 @@ fn put_block(b: Block, moves: &mut [i64], numbers: &mut [u64])
     requires { ⌜ (length (now moves) ≡ 3) × (length (now numbers) ≡ 3) ⌝ }
     ensures { λ r. ⌜ PutBlock b (now (moves .exit)) (now (numbers .exit)) ⌝ }
 {
-    let x = b.x;
-    let y = b.y;
-    let z = b.z;
-    moves[0] = x;
-    moves[1] = y;
-    moves[2] = z;
+    put_moves(b, moves);
     numbers[0] = b.feed;
     numbers[1] = b.radius;
     numbers[2] = b.mark;
@@ -77,7 +73,7 @@ pub extern "C" fn fullerecru_write_limits(limits: &[u64; 9], bytes: &mut [u8]) -
 
 // Reads the record that the bytes begin with, 16 of them; later bytes play no part. Gives the block's
 // moves X, Y, Z, µm, and its feed, µm/s, radius, µm, 0 for no curve, and mark. Refuses by 9 under 16
-// bytes, then by 2 to 6, and then both lists stay as they were.
+// bytes, then by 2 to 5 (every mark of a record is in its range), and then both lists stay as they were.
 #[no_mangle]
 pub extern "C" fn fullerecru_read_record(
     bytes: &[u8],

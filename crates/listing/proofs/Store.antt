@@ -144,7 +144,7 @@ stored-with-room {s} {text} {at} h r e =
       next = e ∙ ap (placeBehind at) (r .next) ∙ ap (λ (b : Bool). placeBehind at (cond b (At (at + length text)) NoRoom)) fits;
     }
 
--- What an answer says: the text stands there, or nothing was stored.
+-- What an answer says: the text stands there.
 pub was-stored : {s text after : List ℕ} {at end : ℕ} {answer : Put} → answer ≡ At end → Answered s at text answer after
     → (at + length text ≤ length s) × Stored s at text end after
 was-stored {s} {text} {after} {at} {end} {answer} is r = by (leb (at + length text) (length s)) refl (r .bytes) (r .next)
@@ -153,12 +153,3 @@ was-stored {s} {text} {after} {at} {end} {answer} is r = by (leb (at + length te
         → answer ≡ cond b (At (at + length text)) NoRoom → (at + length text ≤ length s) × Stored s at text end after
     by true e f g = (leb-true _ _ e, record { bytes = f; next = cc })
     by false e f g = let z : _≡_ {A = ℕ} 0 1 = cc in absurd (omega arith)
-
-pub had-no-room : {s text after : List ℕ} {at : ℕ} {answer : Put} → answer ≡ NoRoom → Answered s at text answer after
-    → (length s < at + length text) × (after ≡ s)
-had-no-room {s} {text} {after} {at} {answer} is r = by (leb (at + length text) (length s)) refl (r .bytes) (r .next)
-  where
-    by : (b : Bool) → leb (at + length text) (length s) ≡ b → after ≡ cond b (put s at text) s
-        → answer ≡ cond b (At (at + length text)) NoRoom → (length s < at + length text) × (after ≡ s)
-    by true e f g = let z : _≡_ {A = ℕ} 0 1 = cc in absurd (omega arith)
-    by false e f g = (leb-false _ _ e, f)

@@ -134,19 +134,6 @@ pub fn put_line(out: &mut [u8], at: usize, words: &[u8], numbers: &[u64]) -> Put
     }
 }
 
-// Stores n in decimal.
-pub fn put_number(out: &mut [u8], at: usize, n: u64) -> Put
-    ensures { λ r. ⌜ Answered (now (out .entry)) at (decimal n) r (now (out .exit)) ⌝ }
-{
-    if out.len() < at {
-        return Put::NoRoom;
-    }
-    if out.len() - at < digits(n) {
-        return Put::NoRoom;
-    }
-    Put::At(store_number(out, at, n))
-}
-
 // Stores the bytes of a text.
 pub fn put_bytes(out: &mut [u8], at: usize, text: &[u8]) -> Put
     ensures { λ r. ⌜ Answered (now (out .entry)) at (now (text .entry)) r (now (out .exit)) ⌝ }

@@ -29,13 +29,14 @@ use tape::MOST_BYTES;
 use tape::RECORD_BYTES;
 use tape::limits::read_limits;
 use tape::records::decode_record;
+use tapeplan::MOST_BLOCKS;
 use tapeplan::TapePlanned;
 use tapeplan::whole::plan_tape;
 
 // Bytes that hold the listing of any tape: 49 of the header, and 190 for each of 2,048 lines.
 pub const TEXT: usize = 389_169;
 // Junctions of the longest tape.
-const JUNCTIONS: usize = 2_049;
+const JUNCTIONS: usize = MOST_BLOCKS + 1;
 
 // A block with the entry and exit squared speeds that a plan has at its ends, (µm/s)².
 fn given_between(l: Limits, b: Block, entry: u64, exit: u64) -> Given
@@ -114,6 +115,7 @@ fn list_accepted(s: &[u8], plan: &[u64], text: &mut [u8]) -> usize
     ensures { λ r. ⌜ Stored (now (text .entry)) 0 (acceptedText (now (s .entry))) r (now (text .exit)) ⌝ }
 {
     match read_limits(s) {
+        // an accepted tape's limits are never refused
         LimitsRead::Refused(_) => 0,
         LimitsRead::Read(l) => {
             let at = put_head(text);

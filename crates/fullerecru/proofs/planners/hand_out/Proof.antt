@@ -1,24 +1,14 @@
 -- `fullerecru::planners::hand_out`: both lists are stored whole. Assumes nothing.
-use mathlib.Core.List.{[], _∷_}
-use mathlib.Core.Path.{_∙_}
-use borrow.Author.Needs.{needs}
 use native.Mathlib.Omega.{arith}
 use lib.ListN.{length-set}
-use lib.Seq.{sets}
-use Rattle.arith.proofs.SignedLaws.{field-back}
-use Rattle.fullerecru.specs.Planners.{movesFor, givenNumbers}
 use Rattle.planner.proofs.View.{sets-all}
+use Rattle.fullerecru.specs.Planners.{givenNumbers}
+use borrow.Author.Needs.{needs}
 use Rattle.fullerecru.proofs.planners.hand_out.Statement.{statement}
 use Rattle.fullerecru.proofs.planners.hand_out.Tie as tie
 
-slice-set-from-x : tie.Need-slice-set-from-x
-slice-set-from-x c = search needs
-
-slice-set-from-y : tie.Need-slice-set-from-y
-slice-set-from-y c = search needs
-
-slice-set-from-z : tie.Need-slice-set-from-z
-slice-set-from-z c = search needs
+put-moves-requires : tie.Need-put-moves-requires
+put-moves-requires c κs = search needs
 
 slice-write-numbers : tie.Need-slice-write-numbers
 slice-write-numbers c = search needs
@@ -61,16 +51,25 @@ same-length-2 c = simp length-set
 
 returns : tie.Need-returns
 returns c =
-    let s = c .before .before .before .before .before in
-    let g = s .args .g in
-    let told = c .struct-told3 .given in
-    record {
-      moves-are =
-          (λ i. sets (s .args .moves .now) 0 (field-back (g .block .x) (told .0 .1) i ∷ field-back (g .block .y) (told .1 .0 .1) i ∷ field-back (g .block .z) (told .1 .1 .0 .1) i ∷ []))
-          ∙ sets-all (movesFor g) (s .args .moves .now) (s .pre .0);
-      numbers-are = sets-all (givenNumbers g) (s .args .numbers .now) (s .pre .1);
-    }
+    let s = c .before .before .before .before .before .before in
+    record { moves-are = c .before .put-moves .ensures; numbers-are = sets-all (givenNumbers (s .args .g)) (s .args .numbers .now) (s .pre .1) }
 
 pub hand-out-spec : {M : Type 1} → statement M
 hand-out-spec =
-    tie.close (tie.spec slice-set-from-x slice-set-from-y slice-set-from-z slice-write-numbers slice-write-numbers-2 slice-write-numbers-3 slice-write-numbers-4 slice-write-numbers-5 slice-write-numbers-6 slice-write-numbers-7 slice-write-numbers-8 slice-write-numbers-9 slice-write-numbers-10 slice-write-numbers-11 same-length same-length-2 returns)
+    tie.close
+    (tie.spec
+    put-moves-requires
+    slice-write-numbers
+    slice-write-numbers-2
+    slice-write-numbers-3
+    slice-write-numbers-4
+    slice-write-numbers-5
+    slice-write-numbers-6
+    slice-write-numbers-7
+    slice-write-numbers-8
+    slice-write-numbers-9
+    slice-write-numbers-10
+    slice-write-numbers-11
+    same-length
+    same-length-2
+    returns)
