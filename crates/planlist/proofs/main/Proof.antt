@@ -29,8 +29,14 @@ slice-aggregate-write-all c = length-front (c .before .list-tape .ensures)
 write-all-requires : tie.Need-write-all-requires
 write-all-requires c κs = search needs
 
+say-failed-requires : tie.Need-say-failed-requires
+say-failed-requires c κs = search needs
+
 returns : tie.Need-returns
 returns c = search needs
+
+returns-2 : tie.Need-returns-2
+returns-2 c = search needs
 
 pub main-spec : {M : Type 1} → statement M
 main-spec =
@@ -44,4 +50,6 @@ main-spec =
     array-share-prefix-text
     slice-aggregate-write-all
     write-all-requires
-    returns)
+    say-failed-requires
+    returns
+    returns-2)
