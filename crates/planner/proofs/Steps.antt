@@ -1,13 +1,13 @@
 -- The passes over a ring, one step of each, in the numbers that the code reads. From the laws of the view. Assumes nothing.
 use mathlib.Core.Bool.{Bool, true, false, cond}
 use mathlib.Core.List.{List, _∷_, _++_}
-use mathlib.Core.Path.{_≡_, sym, ap, _∙_}
-use Prim.Native.Nat.{ℕ, suc, _+_, _-_, _*_, _%_, _^_, _≤_, _<_, min}
-use borrow.Author.Tests.{eq-eqb, ne-eqb}
+use mathlib.Core.Path.{_≡_, refl, sym, ap, _∙_}
+use Prim.Native.Nat.{ℕ, suc, _+_, _-_, _*_, _/_, _%_, _^_, _≤_, _<_, min}
+use borrow.Author.Tests.{eq-eqb, ne-eqb, leb-true, leb-false}
 use native.Mathlib.Nat.{sub-zero, mod-lt}
 use native.Mathlib.Numerals.{add-one}
 use native.Mathlib.Omega.{arith}
-use lib.Dec.{eqb, lit<}
+use lib.Dec.{eqb, leb, lit<}
 use lib.IntN.{ℤ, pos, negsuc, natAbs}
 use lib.ListN.{length, getD, set, take}
 use lib.Seq.{take-suc-set, append-snoc, set-split, drop-length, sets, length-sets}
@@ -24,12 +24,27 @@ use Rattle.line.specs.Blocks.{mostHeld}
 use Rattle.line.specs.Ring.{cutLimits, placeOf, putLast, blockIn, numbersIn, junctionAfter, givenIn, takenFrom, speedsFrom, Place, Ring, placeAt, slot, brakeAt, withLimit, withPlace, walkBack}
 use Rattle.line.specs.declared.Given.{Given}
 use Rattle.planner.specs.Calls.{brakeIn, exitIn}
-use Rattle.planner.specs.View.{numbersFor, memorySize, baseOf, placeFrom, viewOf}
+use Rattle.planner.specs.View.{numbersFor, memorySize, placeSize, baseOf, placeFrom, viewOf}
 use Rattle.planner.proofs.View.{view-put, view-count, view-moved, ring-place, view-limit}
 
 -- Where block k begins, from the place of the first block that was read before.
 pub begins : (m : List ℕ) (first k at : ℕ) → viewOf m .first ≡ first → at ≡ baseOf ((first + k) % mostHeld) → at ≡ baseOf (slot (viewOf m) k)
 begins m first k at e p = p ∙ ap (λ (f : ℕ). baseOf ((f + k) % mostHeld)) (sym e)
+
+-- Where the block before block n begins, from where block n does.
+before-slot : (first k after : ℕ) (t : Bool) → leb after (baseOf 0) ≡ t → after ≡ baseOf ((first + suc k) % mostHeld)
+    → cond t (baseOf 63) (after - placeSize) ≡ baseOf ((first + k) % mostHeld)
+before-slot first k after true e p =
+    let low = leb-true after (baseOf 0) e in
+    let whole : (first + suc k) % mostHeld ≡ 0 = omega arith in
+    let less : (first + k) / mostHeld < (first + suc k) / mostHeld = omega arith in
+    omega arith
+before-slot first k after false e p = let high = leb-false after (baseOf 0) e in omega arith
+
+pub begins-before : (m : List ℕ) (n k after at : ℕ) → n ≡ suc k → after ≡ baseOf (slot (viewOf m) n) → at ≡ cond (leb after (baseOf 0)) (baseOf 63) (after - placeSize)
+    → at ≡ baseOf (slot (viewOf m) k)
+begins-before m n k after at one p q =
+    q ∙ before-slot (viewOf m .first) k after (leb after (baseOf 0)) refl (p ∙ ap (λ (j : ℕ). baseOf (slot (viewOf m) j)) one)
 
 -- One step of the walk back, by its test.
 walk-step : (k : ℕ) (r : Ring) (t : Bool) → eqb (placeAt r k .limit) (brakeAt r (suc k)) ≡ t

@@ -2,11 +2,13 @@
 // memory whatever it holds.
 ghost use mathlib.Core.Path.{_≡_};
 ghost use mathlib.Core.List.{[], _∷_};
-ghost use Prim.Native.Nat.{_+_, _%_, _≤_};
+ghost use mathlib.Core.Bool.{cond};
+ghost use Prim.Native.Nat.{_+_, _-_, _%_, _≤_};
+ghost use lib.Dec.{leb};
 ghost use lib.ListN.{length};
 ghost use lib.Seq.{sets};
 ghost use Rattle.line.specs.Ring.{blockIn, cutLimits, numbersIn, placeOf};
-ghost use Rattle.planner.specs.View.{baseOf, limitNumbers, limitsFrom, memorySize, numbersFor, placeFrom};
+ghost use Rattle.planner.specs.View.{baseOf, limitNumbers, limitsFrom, memorySize, numbersFor, placeFrom, placeSize};
 ghost use Rattle.planner.specs.Calls.{brakeIn, exitIn};
 use fields::to_bits;
 use fields::to_signed;
@@ -78,6 +80,17 @@ pub fn place(first: u64, k: u64) -> usize
     ensures { λ r. ⌜ (r ≡ baseOf ((first + k) % 64)) × (r ≤ 768) ⌝ }
 {
     (12 + 12 * ((first % PLACES + k % PLACES) % PLACES)) as usize
+}
+
+// Where the numbers of the place before begin, from where those of a place do; before the first place
+// comes the last.
+pub fn place_before(at: usize) -> usize
+    ensures { λ r. ⌜ r ≡ cond (leb at (baseOf 0)) (baseOf 63) (at - placeSize) ⌝ }
+{
+    if at <= 12 {
+        return 768;
+    }
+    at - 12
 }
 
 // The limits, cut to 32 bits.

@@ -24,6 +24,7 @@ use crate::memory::exit_at;
 use crate::memory::limits_in;
 use crate::memory::numbers_in;
 use crate::memory::place;
+use crate::memory::place_before;
 use crate::memory::store_fresh;
 use crate::memory::store_place;
 use arith::whole::smaller;
@@ -66,13 +67,12 @@ fn walk_back(memory: &mut [u64], count: u64)
     requires { ⌜ length (now memory) ≡ memorySize ⌝ }
     ensures { λ r. ⌜ Memory (walkBack count (viewOf (now (memory .entry)))) (now (memory .exit)) ⌝ }
 {
-    let first = memory[FIRST];
     let mut k = count;
-    let mut after = place(first, k);
+    let mut after = place(memory[FIRST], k);
     while 0 < k {
         let limit = brake_at(memory, after);
         k -= 1;
-        let at = place(first, k);
+        let at = place_before(after);
         if memory[at + LIMIT] == limit {
             return;
         }
