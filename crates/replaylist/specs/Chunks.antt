@@ -3,15 +3,16 @@ use Prim.Native.Nat.{ℕ, zero, suc, _*_, _/_, min}
 use mathlib.Core.List.{List, [], _∷_}
 use lib.ListN.{length, take, drop}
 use Rattle.line.specs.Blocks.{Call}
+use Rattle.givenlist.specs.Given.{mostGiven}
 use Rattle.replay.specs.Trace.{callBytes, callOf}
 
 -- how many calls of a chunk are run at most
 abbrev pub mostCalls : ℕ
 mostCalls = 300
 
--- most bytes of a call's line, and bytes of the list that is lent for a text
+-- most bytes of a call's line, of which that of a block given out is the longest; and bytes of the list that is lent for a text
 abbrev pub lineBytes : ℕ
-lineBytes = 190
+lineBytes = mostGiven
 
 abbrev pub textBytes : ℕ
 textBytes = 65536
