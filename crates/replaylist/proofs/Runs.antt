@@ -2,8 +2,8 @@
 -- line. Assumes nothing.
 use mathlib.Core.List.{List, [], _∷_, _++_, append-nil, append-assoc}
 use mathlib.Core.Path.{_≡_, refl, sym, ap, subst, _∙_}
-use Prim.Native.Nat.{ℕ, zero, suc, _+_, _-_, _*_, _≤_}
-use native.Mathlib.Nat.{add-zero, zero-add}
+use Prim.Native.Nat.{ℕ, _+_, _-_, _*_, _≤_}
+use native.Mathlib.Nat.{zero-add}
 use native.Mathlib.Numerals.{add-one}
 use native.Mathlib.Omega.{arith}
 use borrow.Author.Tests.{eq-eqb}
@@ -18,10 +18,11 @@ use Rattle.line.proofs.Demand.{holds-calls}
 use Rattle.line.proofs.Shows.{holds-told, holds-shown, holds-highest}
 use Rattle.planner.specs.Calls as planner
 use Rattle.planner.specs.View.{memorySize, viewOf}
-use Rattle.replay.specs.Trace.{callBytes, callOf}
+use Rattle.replay.specs.Trace.{callBytes, callOf, callsFrom}
+use Rattle.replay.proofs.Runs.{calls-more}
 use Rattle.listing.specs.Store.{Stored}
 use Rattle.listing.proofs.Store.{stored-next, put-none}
-use Rattle.replaylist.specs.Chunks.{textBytes, callIn, callsFrom}
+use Rattle.replaylist.specs.Chunks.{textBytes}
 use Rattle.replaylist.specs.Texts.{answerText, answersText, closingText}
 use Rattle.replaylist.specs.Runs.{WroteLine, CalledText, RanText, Ended, Closed}
 
@@ -81,14 +82,6 @@ ran {calls} {text} {text′} {end} few sized after stored =
       stored = stored;
       line = λ line h. (subst (λ (t : List ℕ). Stored text 0 t end text′) (text-held calls h) stored, rw after (holds-calls calls h .1));
     }
-
--- One call more of a chunk.
-calls-more : (bytes : List ℕ) (j n : ℕ) → callsFrom bytes j (suc n) ≡ callsFrom bytes j n ++ callIn bytes (j + n) ∷ []
-unfolding callsFrom
-calls-more bytes j zero = rw (add-zero j)
-calls-more bytes j (suc n) =
-    let e : suc j + n ≡ j + suc n = omega arith in
-    ap (λ (l : List Call). callIn bytes j ∷ l) (calls-more bytes (suc j) n ∙ ap (λ (i : ℕ). callsFrom bytes (suc j) n ++ callIn bytes i ∷ []) e)
 
 -- A run of no calls,
 pub ran-none : (bytes m text : List ℕ) → RanText (callsFrom bytes 0 0) m m text 0 text

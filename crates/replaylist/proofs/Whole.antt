@@ -8,7 +8,7 @@ use native.Mathlib.Nat.{zero-add}
 use native.Mathlib.Omega.{arith}
 use lib.Dec.{eqb}
 use lib.ListN.{length, take, drop, length-append, length-drop, length-take}
-use lib.Seq.{take-append-le, drop-append-le, drop-append-add, drop-drop, take-take}
+use lib.Seq.{take-append-le, drop-append-le, drop-append-add, take-take}
 use Rattle.machine.specs.Checks.{limitsRefusal}
 use Rattle.machine.specs.declared.Limits.{Limits}
 use Rattle.line.specs.Blocks.{freshLine, lineAfterAll}
@@ -21,14 +21,13 @@ use Rattle.tape.specs.Tape.{limitsBytes, limitsAt, zeroBits}
 use Rattle.tape.specs.Display.{given, refused, readLimits, limitsReadRefusal, limitsFault, raggedBelow}
 use Rattle.tape.proofs.Answers.{at-zero, above-zero, then-zero, given-is, refused-is, enough, too-few}
 use Rattle.tape.proofs.Checks.{limits-faultless}
-use Rattle.replay.specs.Trace as trace
-use Rattle.replay.specs.Trace.{callBytes, callOf}
+use Rattle.replay.specs.Trace.{callBytes, callOf, callIn, callsFrom, wholeCalls}
 use Rattle.listing.specs.Text.{refusedAt}
 use Rattle.listing.proofs.Store.{take-front}
 use Rattle.replaylist.specs.Texts.{answersText, cutPlace, cutText, callsText, replayText}
-use Rattle.replaylist.specs.Chunks.{mostCalls, callIn, callsFrom, chunkSize, chunkCalls}
+use Rattle.replaylist.specs.Chunks.{mostCalls, chunkSize, chunkCalls}
 use Rattle.replaylist.specs.Runs.{Closed}
-use Rattle.replaylist.specs.Turns.{chunkBytes, chunksJoined, wholeCalls, Chunked, placeIn, Turns, none, turn}
+use Rattle.replaylist.specs.Turns.{chunkBytes, chunksJoined, Chunked, placeIn, Turns, none, turn}
 use Rattle.replaylist.proofs.Runs.{text-held, text-both, after-both}
 
 -- A call of bytes that others follow, and one of those that follow.
@@ -90,15 +89,6 @@ turns-whole c (turn {bytes} {m} {chunks = next ∷ chunks} r rest) =
     rw (whole-both bytes more (c .0), text-both (viewOf m) (chunkCalls bytes) (wholeCalls more), after-both (viewOf m) (chunkCalls bytes) (wholeCalls more), ← r .after)
     ((λ i. take-front (r .stored) i ++ then .0 i), then .1)
 
--- A trace's calls are those of its bytes behind the limits.
-trace-from : (t : List ℕ) (k n : ℕ) → trace.callsFrom t k n ≡ callsFrom (drop limitsBytes t) k n
-unfolding trace.callsFrom callsFrom
-trace-from t k zero = refl
-trace-from t k (suc n) = λ i. callOf (take callBytes (sym (drop-drop (callBytes * k) limitsBytes t) i)) ∷ trace-from t (suc k) n i
-
-pub trace-whole : (t : List ℕ) → trace.traceCalls t ≡ wholeCalls (drop limitsBytes t)
-trace-whole t = trace-from t 0 (trace.callsIn t) ∙ ap (λ (n : ℕ). callsFrom (drop limitsBytes t) 0 (n / callBytes)) (sym (length-drop limitsBytes t))
-
 -- The place of a cut call behind a whole chunk,
 place-behind : (calls n : ℕ) → cutPlace (calls + mostCalls) n ≡ cutPlace calls (chunkBytes + n)
 place-behind calls n =
@@ -152,10 +142,9 @@ unfolding replayText
 trace-written s {l} {chunks} {m} {m′} {written} {text′} {end} e f j c r closing =
     let head = head-read s e in
     let fresh : Holds (viewOf m) (freshLine l) = f .line (f .answer ∙ head .1 .1) in
-    let calls : wholeCalls (chunksJoined chunks) ≡ trace.traceCalls s = ap wholeCalls j ∙ sym (trace-whole s) in
     let ran : WrittenWhole (chunksJoined chunks) m m′ written = turns-whole c r in
     let held : Holds (viewOf m′) (lineAfterAll (freshLine l) (wholeCalls (chunksJoined chunks))) = rw (ran .1) (holds-calls (wholeCalls (chunksJoined chunks)) fresh .1) in
     let place : placeIn 0 chunks ≡ cutPlace 0 (length s - limitsBytes) = place-whole 0 chunks c ∙ ap (λ (b : List ℕ). cutPlace 0 (length b)) j ∙ ap (cutPlace 0) (length-drop limitsBytes s) in
     (λ i. (ran .0 ∙ text-held (wholeCalls (chunksJoined chunks)) fresh) i ++ cutText (place i) ++ take-front (closing .line _ held .0) i)
-    ∙ (λ i. callsText (head .1 .0 i) (calls i) (cutPlace 0 (length s - limitsBytes)))
+    ∙ (λ i. callsText (head .1 .0 i) (wholeCalls (j i)) (cutPlace 0 (length s - limitsBytes)))
     ∙ sym (at-zero _ _ (head .0))

@@ -1,11 +1,10 @@
 -- A trace run chunk by chunk: which chunks, and what is written. Assumes nothing.
 use mathlib.Core.Path.{_≡_}
 use mathlib.Core.List.{List, [], _∷_, _++_}
-use Prim.Native.Nat.{ℕ, _+_, _*_, _/_, _≤_}
+use Prim.Native.Nat.{ℕ, _+_, _*_, _≤_}
 use lib.ListN.{length, take}
-use Rattle.line.specs.Blocks.{Call}
 use Rattle.replay.specs.Trace.{callBytes}
-use Rattle.replaylist.specs.Chunks.{mostCalls, callsFrom, chunkCalls}
+use Rattle.replaylist.specs.Chunks.{mostCalls, chunkCalls}
 use Rattle.replaylist.specs.Texts.{cutPlace}
 use Rattle.replaylist.specs.Runs.{RanText}
 
@@ -17,10 +16,6 @@ chunkBytes = callBytes * mostCalls
 unfoldable pub chunksJoined : List (List ℕ) → List ℕ
 chunksJoined [] = []
 chunksJoined (bytes ∷ chunks) = bytes ++ chunksJoined chunks
-
--- the whole calls of bytes, however many
-abbrev pub wholeCalls : List ℕ → List Call
-wholeCalls bytes = callsFrom bytes 0 (length bytes / callBytes)
 
 -- every chunk is whole but the last, which may be shorter
 abbrev pub Chunked : List (List ℕ) → Type 0

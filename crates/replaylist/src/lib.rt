@@ -21,6 +21,8 @@ use machine::check::refusal_number;
 use planner::NUMBERS;
 use replay::CALL_BYTES;
 use replay::PLAN;
+use replay::calls::decode_block;
+use replay::calls::kind_of;
 
 // Calls of a chunk that are run at most.
 pub const CALLS: usize = 300;
@@ -79,11 +81,10 @@ fn run_call(bytes: &[u8], memory: &mut [u64; NUMBERS], text: &mut [u8], at: usiz
     requires { ⌜ (length (now bytes) ≡ callBytes) × (at + lineBytes ≤ length (now text)) ⌝ }
     ensures { λ r. ⌜ CalledText (callOf (now (bytes .entry))) (now (memory .entry)) (now (memory .exit)) (now (text .entry)) at r (now (text .exit)) ⌝ }
 {
-    let kind = fields::read_field(bytes, 0, 32);
-    if kind == 0 {
+    if kind_of(bytes) == 0 {
         take_call(memory, text, at)
     } else {
-        add_call(replay::calls::decode_block(bytes), memory, text, at)
+        add_call(decode_block(bytes), memory, text, at)
     }
 }
 

@@ -3,7 +3,8 @@ use mathlib.Core.Path.{_≡_, subst}
 use Prim.Native.Nat.{ℕ, _+_, _-_, _*_, _≤_}
 use native.Mathlib.Omega.{arith}
 use lib.ListN.{length}
-use Rattle.replaylist.specs.Chunks.{lineBytes, textBytes, callsFrom, chunkSize}
+use Rattle.replay.specs.Trace.{callsFrom}
+use Rattle.replaylist.specs.Chunks.{lineBytes, textBytes, chunkSize}
 use Rattle.replaylist.specs.Runs.{RanText}
 use Rattle.replaylist.proofs.Runs.{ran-none, ran-more}
 use borrow.Author.Needs.{needs}
