@@ -1,2 +1,2 @@
--- Where a trace that is read chunk by chunk ends.
+-- Where reading a trace chunk by chunk ends.
 pub mod Places

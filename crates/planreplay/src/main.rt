@@ -6,8 +6,9 @@
 ghost use mathlib.Core.Path.{_≡_};
 ghost use Prim.Native.Nat.{_≤_, _<_};
 ghost use lib.ListN.{length};
+ghost use Rattle.replaylist.specs.Texts.{cutPlace};
 ghost use Rattle.replaylist.specs.Turns.{chunkBytes};
-ghost use Rattle.planreplay.specs.Places.{cutPlace, endCalls};
+ghost use Rattle.planreplay.specs.Places.{endCalls};
 use libc::STDIN_FILENO;
 use libc::STDOUT_FILENO;
 use listing::Put;

@@ -44,24 +44,31 @@ callBy (suc n) b = line.add b
 unfoldable pub callOf : List ℕ → line.Call
 callOf bytes = callBy (wordOf bytes 0) (blockOf bytes)
 
--- the byte at which call k begins, k counted from 0, and that call
+-- call k of bytes with no limits before them, k counted from 0
+abbrev pub callIn : List ℕ → ℕ → line.Call
+callIn bytes k = callOf (take callBytes (drop (callBytes * k) bytes))
+
+-- n calls of such bytes, from call k on, and all whole ones
+unfoldable pub callsFrom : List ℕ → (k n : ℕ) → List line.Call
+callsFrom bytes k zero = []
+callsFrom bytes k (suc n) = callIn bytes k ∷ callsFrom bytes (suc k) n
+
+abbrev pub wholeCalls : List ℕ → List line.Call
+wholeCalls bytes = callsFrom bytes 0 (length bytes / callBytes)
+
+-- the byte at which call k of a trace begins, and that call
 abbrev pub callStart : ℕ → ℕ
 callStart k = limitsBytes + callBytes * k
 
 abbrev pub callAt : List ℕ → ℕ → line.Call
-callAt trace k = callOf (take callBytes (drop (callStart k) trace))
+callAt trace k = callIn (drop limitsBytes trace) k
 
--- how many calls a trace has behind its limits
+-- how many calls a trace has behind its limits, and which
 abbrev pub callsIn : List ℕ → ℕ
 callsIn trace = (length trace - limitsBytes) / callBytes
 
--- n calls of a trace, from call k on, and all of them
-unfoldable pub callsFrom : List ℕ → (k n : ℕ) → List line.Call
-callsFrom trace k zero = []
-callsFrom trace k (suc n) = callAt trace k ∷ callsFrom trace (suc k) n
-
 abbrev pub traceCalls : List ℕ → List line.Call
-traceCalls trace = callsFrom trace 0 (callsIn trace)
+traceCalls trace = wholeCalls (drop limitsBytes trace)
 
 -- 9 where a trace is under 24 bytes or its rest no multiple of 28, else 0
 abbrev pub raggedTrace : List ℕ → ℕ

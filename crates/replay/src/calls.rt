@@ -2,7 +2,7 @@
 ghost use mathlib.Core.Path.{_≡_};
 ghost use lib.ListN.{length};
 ghost use Rattle.line.specs.Blocks as blocks;
-ghost use Rattle.replay.specs.Trace.{blockOf, callBytes, callOf};
+ghost use Rattle.replay.specs.Trace.{blockOf, callBytes, callOf, wordOf};
 ghost use Rattle.replay.specs.Rows.{noneGiven, rowFrom, rowSize};
 ghost use Rattle.replay.specs.Runs.{Stepped};
 use line::AddAnswer;
@@ -15,6 +15,14 @@ use planner::NUMBERS;
 
 // Bits of a word.
 const WORD: usize = 32;
+
+// The kind that a call's bytes say: 0 is a take, any other number an add.
+pub fn kind_of(bytes: &[u8]) -> u64
+    requires { ⌜ length (now bytes) ≡ callBytes ⌝ }
+    ensures { λ r. ⌜ r ≡ wordOf (now (bytes .entry)) 0 ⌝ }
+{
+    fields::read_field(bytes, 0, WORD)
+}
 
 // The block that a call's bytes say.
 pub fn decode_block(bytes: &[u8]) -> Block
@@ -111,7 +119,7 @@ pub(crate) fn step(bytes: &[u8], memory: &mut [u64; NUMBERS], row: &mut [u64])
     requires { ⌜ (length (now bytes) ≡ callBytes) × (length (now row) ≡ rowSize) ⌝ }
     ensures { λ r. ⌜ Stepped (callOf (now (bytes .entry))) (now (memory .entry)) (now (memory .exit)) (now (row .exit)) ⌝ }
 {
-    let kind = fields::read_field(bytes, 0, WORD);
+    let kind = kind_of(bytes);
     if kind == 0 {
         take_call(memory, row);
     } else {

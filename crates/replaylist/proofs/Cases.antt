@@ -1,12 +1,24 @@
 -- Worked examples of the text, which computes: the bytes were written apart from it. Assumes nothing.
 use mathlib.Core.Path.{_≡_, refl}
-use mathlib.Core.List.{[], _∷_}
+use mathlib.Core.List.{List, [], _∷_, _++_}
+use Prim.Native.Nat.{ℕ}
 use lib.IntN.{pos}
+use lib.ListN.{replicate}
+use Rattle.fields.specs.Layouts.{joined, split}
+use Rattle.fields.specs.Bytes.{numberOf}
+use Rattle.fields.specs.Fields.{fieldOf}
+use Rattle.profile.specs.Passes.{startLimit, forward, planOf}
+use Rattle.machine.specs.Checks.{limitsRefusal, limitsWithin}
+use Rattle.machine.specs.Line.{stepsOf}
 use Rattle.line.specs.Answers.{accepted, gave, refused}
+use Rattle.line.specs.Blocks.{lineAnswer, lineAfter, lineAnswers, lineAfterAll}
 use Rattle.line.specs.declared.Given.{Given}
-use Rattle.listing.specs.Text.{digitsOf, decimal, spaced, line, row}
+use Rattle.tape.specs.Tape.{limitsAt, zeroBits}
+use Rattle.tape.specs.Display.{limitsReadRefusal, limitsFault}
+use Rattle.replay.specs.Trace.{callOf, callsFrom}
+use Rattle.listing.specs.Text.{digitsOf, decimal, spaced, line, row, refusedWords}
 use Rattle.givenlist.specs.Given.{givenText}
-use Rattle.replaylist.specs.Texts.{answerText, answersText, closingText}
+use Rattle.replaylist.specs.Texts.{answerText, answersText, closingText, replayText}
 
 -- a block given out with nine numbers, each another
 given : Given
@@ -29,3 +41,22 @@ lines = refl
 closing : closingText 1 (40 ∷ 0 ∷ []) ≡ 104 ∷ 101 ∷ 108 ∷ 100 ∷ 32 ∷ 49 ∷ 10 ∷ 112 ∷ 108 ∷ 97 ∷ 110 ∷ 32 ∷ 52 ∷ 48 ∷ 32 ∷ 48 ∷ 10 ∷ []
 unfolding line spaced decimal digitsOf
 closing = refl
+
+-- machine M
+machine : List ℕ
+machine = 1 ∷ 134 ∷ 160 ∷ 0 ∷ 195 ∷ 80 ∷ 0 ∷ 97 ∷ 168 ∷ 30 ∷ 132 ∷ 129 ∷ 232 ∷ 72 ∷ 30 ∷ 132 ∷ 128 ∷ 0 ∷ 250 ∷ 0 ∷ 8 ∷ 250 ∷ 0 ∷ 0 ∷ []
+
+-- no bytes: `refused 9 at 0`; limits of 0: `refused 1 at 0`
+no-limits : replayText [] ≡ 114 ∷ 101 ∷ 102 ∷ 117 ∷ 115 ∷ 101 ∷ 100 ∷ 32 ∷ 57 ∷ 32 ∷ 97 ∷ 116 ∷ 32 ∷ 48 ∷ 10 ∷ []
+unfolding replayText limitsReadRefusal line spaced decimal digitsOf refusedWords
+no-limits = refl
+
+zero-limits : replayText (replicate 24 0) ≡ 114 ∷ 101 ∷ 102 ∷ 117 ∷ 115 ∷ 101 ∷ 100 ∷ 32 ∷ 49 ∷ 32 ∷ 97 ∷ 116 ∷ 32 ∷ 48 ∷ 10 ∷ []
+unfolding replayText limitsReadRefusal limitsFault zeroBits limitsAt limitsRefusal limitsWithin split numberOf joined line spaced decimal digitsOf refusedWords
+zero-limits = refl
+
+-- a take, and one byte more: `refused 8`, `refused 9 at 2`, `held 0`, `plan 0`
+cut : replayText (machine ++ replicate 29 0)
+    ≡ 114 ∷ 101 ∷ 102 ∷ 117 ∷ 115 ∷ 101 ∷ 100 ∷ 32 ∷ 56 ∷ 10 ∷ 114 ∷ 101 ∷ 102 ∷ 117 ∷ 115 ∷ 101 ∷ 100 ∷ 32 ∷ 57 ∷ 32 ∷ 97 ∷ 116 ∷ 32 ∷ 50 ∷ 10 ∷ 104 ∷ 101 ∷ 108 ∷ 100 ∷ 32 ∷ 48 ∷ 10 ∷ 112 ∷ 108 ∷ 97 ∷ 110 ∷ 32 ∷ 48 ∷ 10 ∷ []
+unfolding machine replayText limitsReadRefusal limitsFault zeroBits limitsAt limitsRefusal limitsWithin split numberOf joined callsFrom callOf fieldOf answersText answerText lineAnswers lineAnswer lineAfterAll lineAfter stepsOf planOf startLimit forward line spaced decimal digitsOf refusedWords
+cut = refl

@@ -1,10 +1,9 @@
--- Lines as they are stored with room, and those of one answer more. From the laws of listings. Assumes nothing.
-use mathlib.Core.Path.{_≡_, sym, ap, _∙_}
-use mathlib.Core.List.{List, [], _∷_, _++_, append-nil, append-assoc}
+-- Lines as they are stored with room. From the laws of listings. Assumes nothing.
+use mathlib.Core.Path.{_≡_, ap, _∙_}
+use mathlib.Core.List.{List, [], _∷_}
 use Prim.Native.Nat.{ℕ, zero, suc, _+_, _≤_, _<_, _^_}
 use native.Mathlib.Omega.{arith}
 use lib.ListN.{length, getD}
-use Rattle.line.specs.Answers.{Answer}
 use Rattle.line.specs.Blocks.{mostHeld}
 use Rattle.listing.specs.Store.{placeBehind, Answered}
 use Rattle.listing.specs.declared.Put.{Put}
@@ -12,12 +11,11 @@ use Rattle.listing.specs.Text as text
 use Rattle.listing.proofs.Store.{stored-with-room, stored-next, length-put}
 use Rattle.listing.proofs.Lines.{line-most}
 use Rattle.replaylist.specs.Chunks.{lineBytes, textBytes}
-use Rattle.replaylist.specs.Texts.{answerText, answersText}
-use Rattle.replaylist.specs.Runs.{Wrote, Ended}
+use Rattle.replaylist.specs.Runs.{WroteLine, Ended}
 
 -- A line that has room.
 pub wrote : {s line after : List ℕ} {at end : ℕ} {answer : Put} → length line ≤ lineBytes → at + lineBytes ≤ length s
-    → Answered s at line answer after → end ≡ placeBehind at answer → Wrote line s at end after
+    → Answered s at line answer after → end ≡ placeBehind at answer → WroteLine line s at end after
 wrote few room r e =
     let s = stored-with-room (omega arith) r e in
     record { few = omega (arith, s .next); stored = s }
@@ -43,9 +41,3 @@ both-lines told t plan p few {s} {between} size a e b f =
     let same : length between ≡ length s = ap length (first .bytes) ∙ length-put s 0 (text.held told) (omega arith) in
     let second = stored-with-room (omega (arith, first .next)) b f in
     record { few = omega (arith, first .next, second .next); stored = stored-next first second (omega arith) }
-
--- The lines of one answer more.
-pub lines-more : (answers : List Answer) (a : Answer) → answersText (answers ++ a ∷ []) ≡ answersText answers ++ answerText a
-unfolding answersText
-lines-more [] a = append-nil (answerText a)
-lines-more (b ∷ answers) a = ap (λ (l : List ℕ). answerText b ++ l) (lines-more answers a) ∙ sym (append-assoc (answerText b) (answersText answers) (answerText a))

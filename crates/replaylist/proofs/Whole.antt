@@ -1,37 +1,34 @@
--- What is written chunk by chunk is the text of all calls of the trace. From the definitions and the laws of lists. Assumes nothing.
+-- What is written chunk by chunk, then for a cut call and at the end, is the text of the whole trace. From the definitions and the laws of lists. Assumes nothing.
 use mathlib.Core.Path.{_≡_, refl, sym, ap, _∙_}
-use mathlib.Core.List.{List, [], _∷_, _++_, append-nil, append-assoc}
-use Prim.Native.Nat.{ℕ, zero, suc, _+_, _*_, _/_, _≤_}
+use mathlib.Core.List.{List, [], _∷_, _++_, append-nil}
+use mathlib.Core.Bool.{cond}
+use Prim.Native.Nat.{ℕ, zero, suc, _+_, _-_, _*_, _/_, _%_, _≤_, _<_}
+use native.Mathlib.Decide.{decLt}
 use native.Mathlib.Nat.{zero-add}
 use native.Mathlib.Omega.{arith}
-use lib.ListN.{length, take, drop, length-append, length-drop}
-use lib.Seq.{take-append-le, drop-append-le, drop-append-add, drop-drop}
+use lib.Dec.{eqb}
+use lib.ListN.{length, take, drop, length-append, length-drop, length-take}
+use lib.Seq.{take-append-le, drop-append-le, drop-append-add, take-take}
+use Rattle.machine.specs.Checks.{limitsRefusal}
 use Rattle.machine.specs.declared.Limits.{Limits}
-use Rattle.line.specs.Blocks.{Call, Line, freshLine, lineAnswer, lineAfter, lineAnswers, lineAfterAll}
+use Rattle.line.specs.Blocks.{freshLine, lineAfterAll}
+use Rattle.line.specs.Ring.{ringAnswers, ringAfterAll}
 use Rattle.line.specs.Holds.{Holds}
+use Rattle.line.proofs.Demand.{holds-calls}
 use Rattle.planner.specs.View.{viewOf}
-use Rattle.tape.specs.Tape.{limitsBytes}
-use Rattle.replay.specs.Trace as trace
-use Rattle.replay.specs.Trace.{callBytes, callOf}
+use Rattle.planner.specs.Calls.{Freshened}
+use Rattle.tape.specs.Tape.{limitsBytes, limitsAt, zeroBits}
+use Rattle.tape.specs.Display.{given, refused, readLimits, limitsReadRefusal, limitsFault, raggedBelow}
+use Rattle.tape.proofs.Answers.{at-zero, above-zero, then-zero, given-is, refused-is, enough, too-few}
+use Rattle.tape.proofs.Checks.{limits-faultless}
+use Rattle.replay.specs.Trace.{callBytes, callOf, callIn, callsFrom, wholeCalls}
+use Rattle.listing.specs.Text.{refusedAt}
 use Rattle.listing.proofs.Store.{take-front}
-use Rattle.replaylist.specs.Texts.{answerText, answersText, callsText}
-use Rattle.replaylist.specs.Chunks.{mostCalls, callIn, callsFrom, chunkSize, chunkCalls}
+use Rattle.replaylist.specs.Texts.{answersText, cutPlace, cutText, callsText, replayText}
+use Rattle.replaylist.specs.Chunks.{mostCalls, chunkSize, chunkCalls}
 use Rattle.replaylist.specs.Runs.{Closed}
-use Rattle.replaylist.specs.Turns.{chunkBytes, joined, wholeCalls, Chunked, Turns, none, turn}
-
--- Calls behind calls: the line afterwards, and the text.
-after-both : (line : Line) (first second : List Call) → lineAfterAll line (first ++ second) ≡ lineAfterAll (lineAfterAll line first) second
-unfolding lineAfterAll
-after-both line [] second = refl
-after-both line (c ∷ first) second = after-both (lineAfter line c) first second
-
-text-both : (line : Line) (first second : List Call)
-    → answersText (lineAnswers line (first ++ second)) ≡ answersText (lineAnswers line first) ++ answersText (lineAnswers (lineAfterAll line first) second)
-unfolding answersText lineAnswers lineAfterAll
-text-both line [] second = refl
-text-both line (c ∷ first) second =
-    ap (λ (t : List ℕ). answerText (lineAnswer line c) ++ t) (text-both (lineAfter line c) first second)
-    ∙ sym (append-assoc (answerText (lineAnswer line c)) (answersText (lineAnswers (lineAfter line c) first)) (answersText (lineAnswers (lineAfterAll (lineAfter line c) first) second)))
+use Rattle.replaylist.specs.Turns.{chunkBytes, chunksJoined, Chunked, placeIn, Turns, none, turn}
+use Rattle.replaylist.proofs.Runs.{text-held, text-both, after-both}
 
 -- A call of bytes that others follow, and one of those that follow.
 call-before : (bytes more : List ℕ) (k : ℕ) → callBytes * suc k ≤ length bytes → callIn (bytes ++ more) k ≡ callIn bytes k
@@ -77,39 +74,77 @@ whole-last bytes h =
     let size : length bytes / callBytes ≡ chunkSize bytes = omega arith in
     ap wholeCalls (append-nil bytes) ∙ ap (callsFrom bytes 0) size
 
--- Chunk by chunk, what is written is the text of all calls, and the memory holds the line after them.
+-- Chunk by chunk, what is written is the text of all calls, and the memory is as after them, whatever it holds at first.
 abbrev pub WrittenWhole : (bytes : List ℕ) (memory memory′ written : List ℕ) → Type 0
-WrittenWhole bytes memory memory′ written = (line : Line) → Holds (viewOf memory) line
-    → (written ≡ answersText (lineAnswers line (wholeCalls bytes))) × Holds (viewOf memory′) (lineAfterAll line (wholeCalls bytes))
+WrittenWhole bytes memory memory′ written =
+    (written ≡ answersText (ringAnswers (viewOf memory) (wholeCalls bytes))) × (viewOf memory′ ≡ ringAfterAll (viewOf memory) (wholeCalls bytes))
 
-pub turns-whole : {chunks : List (List ℕ)} {m m′ written : List ℕ} → Chunked chunks → Turns chunks m m′ written → WrittenWhole (joined chunks) m m′ written
-unfolding joined answersText lineAnswers lineAfterAll callsFrom
-turns-whole c none line h = (refl, h)
-turns-whole c (turn {bytes} {chunks = []} r none) line h =
-    let ran = r .line line h in
-    rw (whole-last bytes c) (append-nil _ ∙ take-front (ran .0), ran .1)
-turns-whole c (turn {bytes} {chunks = next ∷ chunks} r rest) line h =
-    let ran = r .line line h in
-    let then = turns-whole (c .1) rest (lineAfterAll line (chunkCalls bytes)) (ran .1) in
-    let more : List ℕ = joined (next ∷ chunks) in
-    rw (whole-both bytes more (c .0), text-both line (chunkCalls bytes) (wholeCalls more), after-both line (chunkCalls bytes) (wholeCalls more))
-    ((λ i. take-front (ran .0) i ++ then .0 i), then .1)
+pub turns-whole : {chunks : List (List ℕ)} {m m′ written : List ℕ} → Chunked chunks → Turns chunks m m′ written → WrittenWhole (chunksJoined chunks) m m′ written
+unfolding chunksJoined answersText ringAnswers ringAfterAll callsFrom
+turns-whole c none = (refl, refl)
+turns-whole c (turn {bytes} {chunks = []} r none) = rw (whole-last bytes c) (append-nil _ ∙ take-front (r .stored), r .after)
+turns-whole c (turn {bytes} {m} {chunks = next ∷ chunks} r rest) =
+    let then = turns-whole (c .1) rest in
+    let more : List ℕ = chunksJoined (next ∷ chunks) in
+    rw (whole-both bytes more (c .0), text-both (viewOf m) (chunkCalls bytes) (wholeCalls more), after-both (viewOf m) (chunkCalls bytes) (wholeCalls more), ← r .after)
+    ((λ i. take-front (r .stored) i ++ then .0 i), then .1)
 
--- A trace's calls are those of its bytes behind the limits.
-trace-from : (t : List ℕ) (k n : ℕ) → trace.callsFrom t k n ≡ callsFrom (drop limitsBytes t) k n
-unfolding trace.callsFrom callsFrom
-trace-from t k zero = refl
-trace-from t k (suc n) = λ i. callOf (take callBytes (sym (drop-drop (callBytes * k) limitsBytes t) i)) ∷ trace-from t (suc k) n i
+-- The place of a cut call behind a whole chunk,
+place-behind : (calls n : ℕ) → cutPlace (calls + mostCalls) n ≡ cutPlace calls (chunkBytes + n)
+place-behind calls n =
+    let part : n % callBytes ≡ (chunkBytes + n) % callBytes = omega arith in
+    let place : calls + mostCalls + n / callBytes + 1 ≡ calls + (chunkBytes + n) / callBytes + 1 = omega arith in
+    λ i. cond (eqb (part i) 0) 0 (place i)
 
-pub trace-whole : (t : List ℕ) → trace.traceCalls t ≡ wholeCalls (drop limitsBytes t)
-trace-whole t = trace-from t 0 (trace.callsIn t) ∙ ap (λ (n : ℕ). callsFrom (drop limitsBytes t) 0 (n / callBytes)) (sym (length-drop limitsBytes t))
+-- and chunk by chunk.
+place-whole : (calls : ℕ) (chunks : List (List ℕ)) → Chunked chunks → placeIn calls chunks ≡ cutPlace calls (length (chunksJoined chunks))
+unfolding chunksJoined
+place-whole calls [] c = refl
+place-whole calls (bytes ∷ []) c = ap (λ (l : List ℕ). cutPlace calls (length l)) (sym (append-nil bytes))
+place-whole calls (bytes ∷ next ∷ chunks) c =
+    let more : List ℕ = chunksJoined (next ∷ chunks) in
+    let long : chunkBytes + length more ≡ length (bytes ++ more) = omega (arith, length-append bytes more, c .0) in
+    place-whole (calls + mostCalls) (next ∷ chunks) (c .1) ∙ place-behind calls (length more) ∙ ap (cutPlace calls) long
 
--- A trace from a fresh planner: what is written chunk by chunk, and then the closing lines, are its whole text.
-pub trace-written : (t : List ℕ) {l : Limits} {chunks : List (List ℕ)} {m m′ written text text′ : List ℕ} {end : ℕ} → Holds (viewOf m) (freshLine l)
-    → joined chunks ≡ drop limitsBytes t → Chunked chunks → Turns chunks m m′ written → Closed m′ text end text′
-    → written ++ take end text′ ≡ callsText l (trace.traceCalls t)
-trace-written t {l} {m} {m′} {written} {text′} {end} fresh e c r closing =
-    let calls : trace.traceCalls t ≡ wholeCalls (joined _) = trace-whole t ∙ ap wholeCalls (sym e) in
-    let ran = turns-whole c r (freshLine l) fresh in
-    let last = closing .line (lineAfterAll (freshLine l) (wholeCalls (joined _))) (ran .1) in
-    rw calls (λ i. ran .0 i ++ take-front (last .0) i)
+-- Reading the limits of a trace takes its first 24 bytes.
+head-same : (s : List ℕ) → readLimits (take limitsBytes s) ≡ readLimits s
+unfolding readLimits limitsReadRefusal limitsFault limitsAt zeroBits
+head-same s =
+    let same : take limitsBytes (take limitsBytes s) ≡ take limitsBytes s = take-take limitsBytes limitsBytes s (omega arith) in
+    rw (same, short)
+  where
+    go : Dec (length s < limitsBytes) → raggedBelow limitsBytes (take limitsBytes s) ≡ raggedBelow limitsBytes s
+    go (yes h) = too-few limitsBytes (take limitsBytes s) (omega (arith, length-take limitsBytes s)) ∙ sym (too-few limitsBytes s h)
+    go (no h) = enough limitsBytes (take limitsBytes s) (omega (arith, length-take limitsBytes s)) ∙ sym (enough limitsBytes s (omega arith))
+
+    short : raggedBelow limitsBytes (take limitsBytes s) ≡ raggedBelow limitsBytes s
+    short = go (decLt (length s) limitsBytes)
+
+-- A trace whose limits are refused has that one line.
+pub refusal-written : (s : List ℕ) {n : ℕ} → readLimits (take limitsBytes s) ≡ refused n → refusedAt n 0 ≡ replayText s
+unfolding replayText readLimits
+refusal-written s e =
+    let r = refused-is (limitsAt s) (limitsReadRefusal s) (limitsReadRefusal s) (sym e ∙ head-same s) in
+    ap (λ (n : ℕ). refusedAt n 0) (r .1) ∙ sym (above-zero _ _ (r .0))
+
+-- Limits that are read pass, and are the trace's.
+head-read : (s : List ℕ) {l : Limits} → readLimits (take limitsBytes s) ≡ given l → (limitsReadRefusal s ≡ 0) × ((l ≡ limitsAt s) × (limitsRefusal l ≡ 0))
+unfolding readLimits limitsReadRefusal
+head-read s e =
+    let r = given-is (limitsAt s) (limitsReadRefusal s) (limitsReadRefusal s) (sym e ∙ head-same s) in
+    (r .0, (r .1, ap limitsRefusal (r .1) ∙ limits-faultless s (then-zero (raggedBelow limitsBytes s) (r .0) .1) .1))
+
+-- Any other trace: what is written chunk by chunk from a fresh planner, then the line of a cut call, and then the closing lines are its whole text.
+pub trace-written : (s : List ℕ) {l : Limits} {chunks : List (List ℕ)} {m₀ m m′ written text text′ : List ℕ} {n end : ℕ} → readLimits (take limitsBytes s) ≡ given l
+    → Freshened m₀ l n m → chunksJoined chunks ≡ drop limitsBytes s → Chunked chunks → Turns chunks m m′ written → Closed m′ text end text′
+    → written ++ cutText (placeIn 0 chunks) ++ take end text′ ≡ replayText s
+unfolding replayText
+trace-written s {l} {chunks} {m} {m′} {written} {text′} {end} e f j c r closing =
+    let head = head-read s e in
+    let fresh : Holds (viewOf m) (freshLine l) = f .line (f .answer ∙ head .1 .1) in
+    let ran : WrittenWhole (chunksJoined chunks) m m′ written = turns-whole c r in
+    let held : Holds (viewOf m′) (lineAfterAll (freshLine l) (wholeCalls (chunksJoined chunks))) = rw (ran .1) (holds-calls (wholeCalls (chunksJoined chunks)) fresh .1) in
+    let place : placeIn 0 chunks ≡ cutPlace 0 (length s - limitsBytes) = place-whole 0 chunks c ∙ ap (λ (b : List ℕ). cutPlace 0 (length b)) j ∙ ap (cutPlace 0) (length-drop limitsBytes s) in
+    (λ i. (ran .0 ∙ text-held (wholeCalls (chunksJoined chunks)) fresh) i ++ cutText (place i) ++ take-front (closing .line _ held .0) i)
+    ∙ (λ i. callsText (head .1 .0 i) (wholeCalls (j i)) (cutPlace 0 (length s - limitsBytes)))
+    ∙ sym (at-zero _ _ (head .0))

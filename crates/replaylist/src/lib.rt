@@ -10,7 +10,7 @@ ghost use Rattle.planner.specs.Calls.{Told};
 ghost use Rattle.replay.specs.Trace.{callBytes, callOf};
 ghost use Rattle.replaylist.specs.Chunks.{chunkCalls, chunkSize, lineBytes, textBytes};
 ghost use Rattle.replaylist.specs.Texts.{answerText};
-ghost use Rattle.replaylist.specs.Runs.{Called, Closed, Ended, Ran, Wrote};
+ghost use Rattle.replaylist.specs.Runs.{CalledText, Closed, Ended, RanText, WroteLine};
 use givenlist::put_given;
 use line::AddAnswer;
 use line::Given;
@@ -21,17 +21,19 @@ use machine::check::refusal_number;
 use planner::NUMBERS;
 use replay::CALL_BYTES;
 use replay::PLAN;
+use replay::calls::decode_block;
+use replay::calls::kind_of;
 
 // Calls of a chunk that are run at most.
 pub const CALLS: usize = 300;
-// Bytes of the list for the text: room for the lines of 300 calls, at most 190 bytes each, and for
-// the closing lines.
+// Bytes of the list for the text: room for the lines of 300 calls, at most 190 bytes each. The
+// closing lines, stored from the first byte on as well, take fewer.
 pub const TEXT: usize = 65_536;
 
 // Stores the line of a block given out.
 fn write_given(g: Given, text: &mut [u8], at: usize) -> usize
     requires { ⌜ at + lineBytes ≤ length (now text) ⌝ }
-    ensures { λ r. ⌜ Wrote (answerText (answers.gave g)) (now (text .entry)) at r (now (text .exit)) ⌝ }
+    ensures { λ r. ⌜ WroteLine (answerText (answers.gave g)) (now (text .entry)) at r (now (text .exit)) ⌝ }
 {
     behind(put_given(text, at, g), at)
 }
@@ -39,7 +41,7 @@ fn write_given(g: Given, text: &mut [u8], at: usize) -> usize
 // Stores the line of an add that was accepted.
 fn write_added(text: &mut [u8], at: usize) -> usize
     requires { ⌜ at + lineBytes ≤ length (now text) ⌝ }
-    ensures { λ r. ⌜ Wrote (answerText answers.accepted) (now (text .entry)) at r (now (text .exit)) ⌝ }
+    ensures { λ r. ⌜ WroteLine (answerText answers.accepted) (now (text .entry)) at r (now (text .exit)) ⌝ }
 {
     behind(listing::put_added(text, at), at)
 }
@@ -47,7 +49,7 @@ fn write_added(text: &mut [u8], at: usize) -> usize
 // Stores the line of a refusal.
 fn write_refused(number: u64, text: &mut [u8], at: usize) -> usize
     requires { ⌜ at + lineBytes ≤ length (now text) ⌝ }
-    ensures { λ r. ⌜ Wrote (answerText (answers.refused number)) (now (text .entry)) at r (now (text .exit)) ⌝ }
+    ensures { λ r. ⌜ WroteLine (answerText (answers.refused number)) (now (text .entry)) at r (now (text .exit)) ⌝ }
 {
     behind(listing::put_refused(text, at, number), at)
 }
@@ -55,7 +57,7 @@ fn write_refused(number: u64, text: &mut [u8], at: usize) -> usize
 // An add and its line.
 fn add_call(b: Block, memory: &mut [u64; NUMBERS], text: &mut [u8], at: usize) -> usize
     requires { ⌜ at + lineBytes ≤ length (now text) ⌝ }
-    ensures { λ r. ⌜ Called (blocks.add b) (now (memory .entry)) (now (memory .exit)) (now (text .entry)) at r (now (text .exit)) ⌝ }
+    ensures { λ r. ⌜ CalledText (blocks.add b) (now (memory .entry)) (now (memory .exit)) (now (text .entry)) at r (now (text .exit)) ⌝ }
 {
     match planner::add(memory, b) {
         AddAnswer::Added => write_added(text, at),
@@ -66,7 +68,7 @@ fn add_call(b: Block, memory: &mut [u64; NUMBERS], text: &mut [u8], at: usize) -
 // A take and its line.
 fn take_call(memory: &mut [u64; NUMBERS], text: &mut [u8], at: usize) -> usize
     requires { ⌜ at + lineBytes ≤ length (now text) ⌝ }
-    ensures { λ r. ⌜ Called blocks.take (now (memory .entry)) (now (memory .exit)) (now (text .entry)) at r (now (text .exit)) ⌝ }
+    ensures { λ r. ⌜ CalledText blocks.take (now (memory .entry)) (now (memory .exit)) (now (text .entry)) at r (now (text .exit)) ⌝ }
 {
     match planner::take(memory) {
         TakeAnswer::Given(g) => write_given(g, text, at),
@@ -77,13 +79,12 @@ fn take_call(memory: &mut [u64; NUMBERS], text: &mut [u8], at: usize) -> usize
 // Runs the call that 28 bytes say, and stores its line.
 fn run_call(bytes: &[u8], memory: &mut [u64; NUMBERS], text: &mut [u8], at: usize) -> usize
     requires { ⌜ (length (now bytes) ≡ callBytes) × (at + lineBytes ≤ length (now text)) ⌝ }
-    ensures { λ r. ⌜ Called (callOf (now (bytes .entry))) (now (memory .entry)) (now (memory .exit)) (now (text .entry)) at r (now (text .exit)) ⌝ }
+    ensures { λ r. ⌜ CalledText (callOf (now (bytes .entry))) (now (memory .entry)) (now (memory .exit)) (now (text .entry)) at r (now (text .exit)) ⌝ }
 {
-    let kind = fields::read_field(bytes, 0, 32);
-    if kind == 0 {
+    if kind_of(bytes) == 0 {
         take_call(memory, text, at)
     } else {
-        add_call(replay::calls::decode_block(bytes), memory, text, at)
+        add_call(decode_block(bytes), memory, text, at)
     }
 }
 
@@ -101,7 +102,7 @@ fn calls_of(bytes: &[u8]) -> usize
 // Runs the calls of a chunk in turn, each line behind the one before it.
 fn run(bytes: &[u8], memory: &mut [u64; NUMBERS], text: &mut [u8]) -> usize
     requires { ⌜ length (now text) ≡ textBytes ⌝ }
-    ensures { λ r. ⌜ Ran (chunkCalls (now (bytes .entry))) (now (memory .entry)) (now (memory .exit)) (now (text .entry)) r (now (text .exit)) ⌝ }
+    ensures { λ r. ⌜ RanText (chunkCalls (now (bytes .entry))) (now (memory .entry)) (now (memory .exit)) (now (text .entry)) r (now (text .exit)) ⌝ }
 {
     let n = calls_of(bytes);
     let mut end: usize = 0;
@@ -118,7 +119,7 @@ fn run(bytes: &[u8], memory: &mut [u64; NUMBERS], text: &mut [u8]) -> usize
 // Runs the calls of a chunk, 28 bytes each, and stores their lines from the first byte on. Returns
 // how many bytes they take. Calls beyond 300, and bytes behind the last whole call, play no part.
 pub fn run_chunk(bytes: &[u8], memory: &mut [u64; NUMBERS], text: &mut [u8; TEXT]) -> usize
-    ensures { λ r. ⌜ Ran (chunkCalls (now (bytes .entry))) (now (memory .entry)) (now (memory .exit)) (now (text .entry)) r (now (text .exit)) ⌝ }
+    ensures { λ r. ⌜ RanText (chunkCalls (now (bytes .entry))) (now (memory .entry)) (now (memory .exit)) (now (text .entry)) r (now (text .exit)) ⌝ }
 {
     run(bytes, memory, text)
 }

@@ -3,7 +3,8 @@ use mathlib.Core.Path.{_≡_, _∙_}
 use Prim.Native.Nat.{ℕ, _+_, _-_, _*_, _≤_}
 use native.Mathlib.Omega.{arith}
 use borrow.Rule.Slice.PartMut.{mid-len}
-use lib.ListN.{length, take}
+use lib.ListN.{length, take, drop}
+use Rattle.tape.specs.Tape.{limitsBytes}
 use Rattle.replay.specs.Trace.{callsFrom}
 use Rattle.replay.specs.Rows.{rowSize}
 use Rattle.replay.specs.Runs.{Ran}
@@ -13,7 +14,7 @@ use Rattle.replay.proofs.run.Statement.{statement}
 use Rattle.replay.proofs.run.Tie as tie
 
 abbrev Inv-loop : tie.InvT-loop
-Inv-loop trace memory₀ answers₀ n k₀ memory answers k = (k ≤ n) × (length answers ≡ rowSize * n) × Ran (callsFrom trace 0 k) memory₀ memory (take (rowSize * k) answers)
+Inv-loop trace memory₀ answers₀ n k₀ memory answers k = (k ≤ n) × (length answers ≡ rowSize * n) × Ran (callsFrom (drop limitsBytes trace) 0 k) memory₀ memory (take (rowSize * k) answers)
 
 abbrev μ-loop : tie.MeasureT-loop
 μ-loop trace memory₀ answers₀ n k₀ memory answers k = n - k
@@ -22,7 +23,7 @@ sub-n : tie.Need-sub-n Inv-loop μ-loop
 sub-n c = search needs
 
 loop-holds : tie.Need-loop-holds Inv-loop μ-loop
-loop-holds c = let s = c .before .before in (search needs, search needs, ran-none (s .args .trace .now) (s .args .memory .now) (s .args .answers .now))
+loop-holds c = let s = c .before .before in (search needs, search needs, ran-none (drop limitsBytes (s .args .trace .now)) (s .args .memory .now) (s .args .answers .now))
 
 mul-from : tie.Need-mul-from Inv-loop μ-loop
 mul-from c = search needs
@@ -76,7 +77,7 @@ loop-again c =
     let trace = l .before .before .before .args .trace .now in
     let k = l .loop .k in
     let long : length (s .step .last .1 .1 .0) ≡ rowSize = s .step .kept .1 .1 .0 ∙ mid-len (rowSize * k) (rowSize * k + rowSize) (l .loop .answers) (search needs) ∙ back k in
-    (search needs, search needs, ran-stored trace (l .loop .answers) (s .step .last .1 .1 .0) k (rowSize * k + rowSize - rowSize * k) (search needs) long (l .loop .inv .2) (part-call trace k (s .step .ensures)))
+    (search needs, search needs, ran-stored (drop limitsBytes trace) (l .loop .answers) (s .step .last .1 .1 .0) k (rowSize * k + rowSize - rowSize * k) (search needs) long (l .loop .inv .2) (part-call trace k (s .step .ensures)))
   where
     back : (k : ℕ) → rowSize * k + rowSize - rowSize * k ≡ rowSize
     back k = omega arith

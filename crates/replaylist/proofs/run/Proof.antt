@@ -3,15 +3,16 @@ use mathlib.Core.Path.{_≡_, subst}
 use Prim.Native.Nat.{ℕ, _+_, _-_, _*_, _≤_}
 use native.Mathlib.Omega.{arith}
 use lib.ListN.{length}
-use Rattle.replaylist.specs.Chunks.{lineBytes, textBytes, callsFrom, chunkSize}
-use Rattle.replaylist.specs.Runs.{Ran}
+use Rattle.replay.specs.Trace.{callsFrom}
+use Rattle.replaylist.specs.Chunks.{lineBytes, textBytes, chunkSize}
+use Rattle.replaylist.specs.Runs.{RanText}
 use Rattle.replaylist.proofs.Runs.{ran-none, ran-more}
 use borrow.Author.Needs.{needs}
 use Rattle.replaylist.proofs.run.Statement.{statement}
 use Rattle.replaylist.proofs.run.Tie as tie
 
 abbrev Inv-loop : tie.InvT-loop
-Inv-loop bytes memory₀ text₀ n end₀ k₀ memory text end k = (k ≤ n) × ((n ≡ chunkSize bytes) × ((length text ≡ textBytes) × ((end ≤ lineBytes * k) × Ran (callsFrom bytes 0 k) memory₀ memory text₀ end text)))
+Inv-loop bytes memory₀ text₀ n end₀ k₀ memory text end k = (k ≤ n) × ((n ≡ chunkSize bytes) × ((length text ≡ textBytes) × ((end ≤ lineBytes * k) × RanText (callsFrom bytes 0 k) memory₀ memory text₀ end text)))
 
 abbrev μ-loop : tie.MeasureT-loop
 μ-loop bytes memory₀ text₀ n end₀ k₀ memory text end k = n - k
@@ -61,7 +62,7 @@ returns c =
     let l = c .before in
     let s = l .before .before .before .before .args in
     let all : l .loop .k ≡ chunkSize (s .bytes .now) = omega arith in
-    subst (λ (n : ℕ). Ran (callsFrom (s .bytes .now) 0 n) (s .memory .now) (l .loop .memory) (s .text .now) (l .loop .end) (l .loop .text)) all (l .loop .inv .1 .1 .1 .1)
+    subst (λ (n : ℕ). RanText (callsFrom (s .bytes .now) 0 n) (s .memory .now) (l .loop .memory) (s .text .now) (l .loop .end) (l .loop .text)) all (l .loop .inv .1 .1 .1 .1)
 
 pub run-spec : {M : Type 1} → statement M
 run-spec =

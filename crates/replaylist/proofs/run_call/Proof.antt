@@ -5,8 +5,8 @@ use borrow.Author.Needs.{needs}
 use Rattle.replaylist.proofs.run_call.Statement.{statement}
 use Rattle.replaylist.proofs.run_call.Tie as tie
 
-read-field-requires : tie.Need-read-field-requires
-read-field-requires c κs = search needs
+kind-of-requires : tie.Need-kind-of-requires
+kind-of-requires c κs = search needs
 
 take-call-requires : tie.Need-take-call-requires
 take-call-requires c κs = search needs
@@ -24,7 +24,7 @@ returns : tie.Need-returns
 returns c =
     let t = c .before .before in
     let k = t .before .before .before in
-    rw (call-take (k .before .before .before .before .args .bytes .now) (sym (k .before .read-field .ensures .is) ∙ k .if1 .taken)) (t .take-call .ensures)
+    rw (call-take (k .before .before .before .before .args .bytes .now) (sym (k .before .kind-of .ensures) ∙ k .if1 .taken)) (t .take-call .ensures)
 
 same-length-2 : tie.Need-same-length-2
 same-length-2 c = search needs
@@ -34,13 +34,13 @@ returns-2 c =
     let t = c .before .before in
     let d = t .before .before .before in
     let k = d .before in
-    rw (call-add (k .before .before .before .before .args .bytes .now) (λ e. k .if1 .left (k .before .read-field .ensures .is ∙ e)) (d .decode-block .ensures)) (t .add-call .ensures)
+    rw (call-add (k .before .before .before .before .args .bytes .now) (λ e. k .if1 .left (k .before .kind-of .ensures ∙ e)) (d .decode-block .ensures)) (t .add-call .ensures)
 
 pub run-call-spec : {M : Type 1} → statement M
 run-call-spec =
     tie.close
     (tie.spec
-    read-field-requires
+    kind-of-requires
     take-call-requires
     decode-block-requires
     add-call-requires
