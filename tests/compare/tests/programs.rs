@@ -12,8 +12,11 @@ use reference::incremental::Planner;
 use reference::listing;
 use reference::machine::{Block, Limits};
 use reference::rng::Rng;
-use reference::tape::{Tape, MOST_BLOCKS, MOST_BYTES};
-use reference::trace::{pack_trace, Call};
+use reference::tape::{Tape, LIMITS_BYTES, MOST_BLOCKS, MOST_BYTES};
+use reference::trace::{pack_trace, Call, CALL_BYTES};
+
+/// Calls that planreplay reads and runs at a time.
+const CHUNK_CALLS: usize = 300;
 
 /// Limits at the ends of their ranges: everything slowest, everything fastest.
 const ENDS: [Limits; 2] = [
@@ -130,7 +133,7 @@ fn planlist_ends_on_endless_input() {
     let tape = example("mould-row").expect("an example").pack();
     // until planlist has closed the pipe, which stays open on this side
     let taken = (0..2_000).take_while(|_| pipe.write_all(&tape).is_ok());
-    assert!(taken.count() < 2_000, "planlist reads on and on");
+    assert!(taken.count() < 2_000, "planlist does not stop reading");
     assert_eq!(text_of(child), "refused 10 at 0\n");
     report(2, "endless inputs");
 }
@@ -182,6 +185,28 @@ fn planreplay_answers_empty_and_ragged_input() {
     }
     compare_replay(0, &[0; 24]);
     report(111, "empty and ragged traces");
+}
+
+/// Traces that end at the borders of the chunks, 300 calls each, that
+/// planreplay reads, and traces of no call; then 0, 1 and 27 bytes of a call
+/// that is cut short.
+#[test]
+fn planreplay_answers_at_the_borders_of_its_chunks() {
+    let mut rng = Rng::new(4);
+    let limits = limits(&mut rng);
+    let whole = pack_trace(&limits, &calls(&mut rng, 2 * CHUNK_CALLS + 2));
+    let mut count = 0;
+    for chunks in 0..=2 {
+        let border = chunks * CHUNK_CALLS;
+        for calls in border.saturating_sub(1)..=border + 1 {
+            for more in [0, 1, CALL_BYTES - 1] {
+                let length = LIMITS_BYTES + calls * CALL_BYTES + more;
+                compare_replay(length as u64, &whole[..length]);
+                count += 1;
+            }
+        }
+    }
+    report(count, "traces that end at a chunk's border");
 }
 
 /// A trace far longer than any buffer.
