@@ -8,7 +8,7 @@ use std::thread;
 use std::time::{Duration, Instant};
 
 /// Longest time that one run may take.
-const PATIENCE: Duration = Duration::from_secs(20);
+const LONGEST_RUN: Duration = Duration::from_secs(20);
 
 /// The program that an environment variable names, else the one of the name
 /// that the project has built.
@@ -55,7 +55,7 @@ pub fn text_of(mut child: Child) -> String {
         if let Some(status) = child.try_wait().expect("a child that runs") {
             break status;
         }
-        if begin.elapsed() > PATIENCE {
+        if begin.elapsed() > LONGEST_RUN {
             let _ = child.kill();
             panic!("the program does not end");
         }
