@@ -19,7 +19,7 @@ bench:
 
 # make picture: docs/plan.svg, the speeds of the mould's plan, drawn again.
 PICTURED = examples/tapes/mould-row.tape
-TITLE = Two rows over a mould: 325 blocks, most of them chords of 0.25 to 0.34 mm
+TITLE = Two rows over a mould: 325 blocks, most of them chords of 0.25 to 0.33 mm
 
 picture:
 	rt check planlist
