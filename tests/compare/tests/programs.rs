@@ -4,7 +4,7 @@ use std::fs::File;
 use std::io::Write;
 use std::process::Stdio;
 
-use compare::programs::{planlist, planreplay, run, run_in_pieces, start, text_of};
+use compare::programs::*;
 use compare::{hex, report, same};
 use reference::examples::{example, example_trace, NAMES, TRACE_NAMES};
 use reference::generate::*;
@@ -218,4 +218,31 @@ fn planreplay_runs_a_long_trace() {
     let text = run(&planreplay(), &trace);
     assert!(text == listing::planreplay_by::<Planner>(&trace));
     report(100_000, "calls of a long trace");
+}
+
+/// Every write to /dev/full fails. A program that could not write its text ends
+/// with a status of its own other than 0, whether the text is a refusal, short
+/// or longer than any buffer.
+#[test]
+fn a_failed_write_is_told_by_the_status() {
+    let limits = machine_m();
+    let blocks = short_steps(5, MOST_BLOCKS);
+    let adds: Vec<Call> = blocks.iter().map(|b| Call::Add(*b)).collect();
+    let (long_trace, long_tape) = (pack_trace(&limits, &adds), Tape { limits, blocks }.pack());
+    let short_tape = example("right-angle").expect("an example").pack();
+    let short_trace = example_trace("shop-traffic").expect("an example");
+    let runs = [
+        (planlist(), [&[][..], &short_tape, &long_tape]),
+        (planreplay(), [&[][..], &short_trace, &long_trace]),
+    ];
+    for (program, inputs) in runs {
+        for input in inputs {
+            let full = File::create("/dev/full").expect("/dev/full");
+            let status = status_with(&program, input, Stdio::from(full));
+            let told = status.code().is_some_and(|code| code != 0);
+            let name = program.display();
+            assert!(told, "{name}, {} bytes: {status}", input.len());
+        }
+    }
+    report(6, "texts that could not be written");
 }
