@@ -19,7 +19,7 @@ bench:
 
 # make picture: docs/plan.svg, the speeds of the mould's plan, drawn again.
 PICTURED = examples/tapes/mould-row.tape
-TITLE = Two rows over a mould: 325 blocks, most of them chords of 0.25 to 0.34 mm
+TITLE = Two rows over a mould: 325 blocks, most of them chords of 0.25 to 0.33 mm
 
 picture:
 	rt check planlist
@@ -29,13 +29,14 @@ picture:
 REFERENCE = CARGO_TARGET_DIR=target/reference cargo run --quiet --release --offline \
     --manifest-path tests/reference/Cargo.toml --bin
 
-# make expected: the cases of the programs machine_run and tape_run, and what these and planreplay must
-# write, made again by the independent implementation.
+# make expected: the cases of the programs machine_run and tape_run, and what these, planlist and
+# planreplay must write, made again by the independent implementation.
 expected:
 	$(REFERENCE) machine_expect -- cases > crates/machine_run/stdin
 	$(REFERENCE) machine_expect -- answers < crates/machine_run/stdin > crates/machine_run/stdout
 	$(REFERENCE) tape_expect -- cases > crates/tape_run/stdin
 	$(REFERENCE) tape_expect -- answers < crates/tape_run/stdin > crates/tape_run/stdout
+	$(REFERENCE) planlist_ref < crates/planlist/stdin > crates/planlist/stdout
 	$(REFERENCE) planreplay_ref < crates/planreplay/stdin > crates/planreplay/stdout
 
 # make examples: the example tapes and traces, made again.

@@ -2,8 +2,8 @@
  *
  * Link with libfullerecru.a (made by `rt staticlib fullerecru`). The library allocates nothing
  * and keeps nothing between calls: all that it works on is lent by the caller. Of the C library
- * it calls memset alone. A call needs under 1 kB of stack, fullerecru_replay 7 kB and
- * fullerecru_plan_tape 34 kB.
+ * it calls memset alone. A call needs under 1 kB of stack, fullerecru_replay under 8 kB and
+ * fullerecru_plan_tape under 34 kB.
  *
  * Units: lengths in µm, speeds in µm/s, squared speeds in (µm/s)², accelerations in µm/s², the
  * tick in microseconds. Every quantity is a whole number.
@@ -55,7 +55,7 @@ enum {
     FULLERECRU_CALL_BYTES = 28,
     /* Numbers of the row that answers a call of a trace. */
     FULLERECRU_ROW = 15,
-    /* Numbers of the list that a replay's plan is written in: one more than most blocks. */
+    /* Numbers of the list that a replay's plan is written in: FULLERECRU_PLACES + 1. */
     FULLERECRU_PLAN = 65
 };
 
@@ -83,12 +83,13 @@ enum fullerecru_refusal {
     FULLERECRU_REFUSED_RAGGED = 9,
     /* tape longer than 32,792 bytes */
     FULLERECRU_REFUSED_MANY = 10,
-    /* lent list of speeds not exactly one longer than the blocks; a replay's list not of its size */
+    /* lent list of speeds not exactly one longer than the blocks; a replay's list not of its
+     * size */
     FULLERECRU_REFUSED_LIST = 11
 };
 
-/* The planner: 64 places in memory of the caller. What the 780 numbers hold is the planner's own
- * business: the caller keeps them and writes none of them. */
+/* The planner: 64 places in memory of the caller, who keeps its 780 numbers from call to call.
+ * These functions alone write them. */
 
 /* Makes a fresh planner: no block held, committed speed 0. The memory need not be initialised.
  *
@@ -181,7 +182,8 @@ uint64_t fullerecru_plan_tape(const uint8_t *tape, size_t count, uint64_t *list,
  * exit, peak, and the lengths run speeding up, at the peak and braking; else 14 zeros.
  *
  * Refuses by 9, 1, 11 in that order. Accepted, it writes answers, told[0] (the number of blocks
- * held at the end), and the first told[0] + 1 numbers of plan: the plan of the blocks still held. */
+ * held at the end), and the first told[0] + 1 numbers of plan: the plan of the blocks still
+ * held. */
 uint64_t fullerecru_replay(const uint8_t *trace, size_t count, uint64_t *answers, size_t numbers,
                            uint64_t *plan, size_t junctions, uint64_t told[1]);
 

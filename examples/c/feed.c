@@ -1,5 +1,7 @@
-/* Feeds a planner as a control does: holds a few blocks ahead, takes the first one when it needs it,
- * and hands its ramp to the servo loop, here one line of print. Then plans a tape of two blocks.
+/* Feeds a planner as a control does: holds a few blocks ahead, takes the first one when it needs
+ * it, and hands its ramp to the servo loop, here one line of print. Then writes a tape of two
+ * blocks, reads it back and plans it, and replays a trace of four calls. Every function of the
+ * header is called.
  *
  *     cc -std=c99 -Iinclude examples/c/feed.c target/staticlib/libfullerecru.a -o target/feed
  */
@@ -12,8 +14,8 @@
 /* Blocks held ahead; a planner has room for FULLERECRU_PLACES. */
 enum { AHEAD = 5 };
 
-/* Acceleration of X, Y, Z, µm/s²; speed of X, Y, Z, µm/s; corner jump, µm/s; chord tolerance, µm;
- * tick, µs. */
+/* Acceleration of X, Y, Z, µm/s²; speed of X, Y, Z, µm/s; corner jump, µm/s; chord tolerance,
+ * µm; tick, µs. */
 static const uint64_t MACHINE[FULLERECRU_LIMITS] = {
     200000, 200000, 200000, 1000000, 1000000, 1000000, 2000, 1, 2000,
 };
@@ -45,6 +47,16 @@ static void take_and_print(uint64_t memory[FULLERECRU_NUMBERS])
            numbers[10]);
 }
 
+/* Prints a name and the numbers of a list on one line. */
+static void print_list(const char *name, const uint64_t *list, size_t count)
+{
+    printf("%s", name);
+    for (size_t i = 0; i < count; i++) {
+        printf(" %" PRIu64, list[i]);
+    }
+    printf("\n");
+}
+
 /* Prints the plan of the blocks held: squared speeds at their junctions, (µm/s)². */
 static void print_plan(const uint64_t memory[FULLERECRU_NUMBERS])
 {
@@ -53,11 +65,8 @@ static void print_plan(const uint64_t memory[FULLERECRU_NUMBERS])
     if (fullerecru_shown(memory, list, junctions) != FULLERECRU_ACCEPTED) {
         return;
     }
-    printf("held %zu, plan", junctions - 1);
-    for (size_t i = 0; i < junctions; i++) {
-        printf(" %" PRIu64, list[i]);
-    }
-    printf("\n");
+    printf("held %zu, ", junctions - 1);
+    print_list("plan", list, junctions);
 }
 
 /* Runs the row with AHEAD blocks held, then lets the planner run empty. */
@@ -87,29 +96,116 @@ static void run_row(void)
     take_and_print(memory);
 }
 
-/* Writes a tape of two blocks at a right angle and plans it from rest to rest. */
-static void plan_pair(void)
+/* Writes a tape of the machine's limits and two blocks at a right angle, marks 7 and 8. Returns how
+ * many bytes it has, or 0 where one of its parts is refused. */
+static size_t write_pair(uint8_t tape[FULLERECRU_MOST_TAPE])
 {
-    uint8_t tape[FULLERECRU_LIMITS_BYTES + 2 * FULLERECRU_RECORD_BYTES];
     uint8_t *first = tape + FULLERECRU_LIMITS_BYTES;
     uint8_t *second = first + FULLERECRU_RECORD_BYTES;
-    uint64_t plan[3], place[1];
-    uint64_t refused = fullerecru_write_limits(MACHINE, tape, sizeof tape);
+    uint64_t refused = fullerecru_write_limits(MACHINE, tape, FULLERECRU_LIMITS_BYTES);
     refused |= fullerecru_write_record(1000, 0, 0, FEED, 0, 7, first, FULLERECRU_RECORD_BYTES);
     refused |= fullerecru_write_record(0, 1000, 0, FEED, 0, 8, second, FULLERECRU_RECORD_BYTES);
-    refused |= fullerecru_plan_tape(tape, sizeof tape, plan, 3, place);
-    if (refused == FULLERECRU_ACCEPTED) {
-        printf("tape of 2 blocks, plan %" PRIu64 " %" PRIu64 " %" PRIu64 "\n", plan[0], plan[1],
-               plan[2]);
+    return refused == FULLERECRU_ACCEPTED ? (size_t)(second - tape) + FULLERECRU_RECORD_BYTES : 0;
+}
+
+/* Prints what a tape of whole records says: its limits, then each block. */
+static void print_tape(const uint8_t *tape, size_t count)
+{
+    uint64_t limits[FULLERECRU_LIMITS];
+    uint64_t refused = fullerecru_read_limits(tape, count, limits);
+    if (refused != FULLERECRU_ACCEPTED) {
+        printf("limits refused by %" PRIu64 "\n", refused);
+        return;
     }
-    memset(second, 0, FULLERECRU_RECORD_BYTES);
-    refused = fullerecru_plan_tape(tape, sizeof tape, plan, 3, place);
-    printf("tape whose second block does not move: refused by %" PRIu64 " at %" PRIu64 "\n", refused, place[0]);
+    print_list("limits", limits, FULLERECRU_LIMITS);
+    for (size_t at = FULLERECRU_LIMITS_BYTES; at < count; at += FULLERECRU_RECORD_BYTES) {
+        int64_t moves[FULLERECRU_MOVES];
+        uint64_t record[FULLERECRU_RECORD];
+        refused = fullerecru_read_record(tape + at, count - at, moves, record);
+        if (refused != FULLERECRU_ACCEPTED) {
+            printf("record refused by %" PRIu64 "\n", refused);
+            return;
+        }
+        printf("record move %" PRId64 " %" PRId64 " %" PRId64, moves[0], moves[1], moves[2]);
+        printf(" feed %" PRIu64 " radius %" PRIu64 " mark %" PRIu64 "\n", record[0], record[1],
+               record[2]);
+    }
+}
+
+/* Plans a tape of whole records from rest to rest and prints its plan, or the refusal. */
+static void plan_tape(const uint8_t *tape, size_t count)
+{
+    uint64_t plan[FULLERECRU_MOST_BLOCKS + 1], place[1];
+    size_t blocks = (count - FULLERECRU_LIMITS_BYTES) / FULLERECRU_RECORD_BYTES;
+    uint64_t refused = fullerecru_plan_tape(tape, count, plan, blocks + 1, place);
+    if (refused != FULLERECRU_ACCEPTED) {
+        printf("tape refused by %" PRIu64 " at %" PRIu64 "\n", refused, place[0]);
+        return;
+    }
+    printf("tape of %zu blocks, ", blocks);
+    print_list("plan", plan, blocks + 1);
+}
+
+/* Writes the pair's tape, reads it back and plans it; then spoils its second block, which no longer
+ * moves, and plans it again. */
+static void run_tape(void)
+{
+    uint8_t tape[FULLERECRU_MOST_TAPE];
+    size_t count = write_pair(tape);
+    if (count == 0) {
+        return;
+    }
+    print_tape(tape, count);
+    plan_tape(tape, count);
+    memset(tape + count - FULLERECRU_RECORD_BYTES, 0, FULLERECRU_RECORD_BYTES);
+    plan_tape(tape, count);
+}
+
+/* The calls of a trace, each of seven words: kind (0 takes, 1 adds), moves X, Y, Z, feed, radius,
+ * mark. A take too early, the pair's two adds, and a take. */
+enum { CALLS = 4, WORDS = FULLERECRU_CALL_BYTES / 4 };
+static const uint32_t TRACE[CALLS][WORDS] = {
+    {0, 0, 0, 0, 0, 0, 0},
+    {1, 1000, 0, 0, 20000, 0, 7},
+    {1, 0, 1000, 0, 20000, 0, 8},
+    {0, 0, 0, 0, 0, 0, 0},
+};
+
+/* Writes the words of the calls, most significant byte first. */
+static void write_calls(uint8_t bytes[CALLS * FULLERECRU_CALL_BYTES])
+{
+    for (size_t k = 0; k < CALLS * WORDS; k++) {
+        uint32_t word = TRACE[k / WORDS][k % WORDS];
+        for (size_t i = 0; i < 4; i++) {
+            bytes[4 * k + i] = (uint8_t)(word >> (24 - 8 * i));
+        }
+    }
+}
+
+/* Replays the trace and prints the row that answers each call (its numbers stand in the order that
+ * the header gives), the number held and the plan. */
+static void run_trace(void)
+{
+    uint8_t trace[FULLERECRU_LIMITS_BYTES + CALLS * FULLERECRU_CALL_BYTES];
+    uint64_t answers[CALLS * FULLERECRU_ROW], plan[FULLERECRU_PLAN], told[1];
+    uint64_t refused = fullerecru_write_limits(MACHINE, trace, sizeof trace);
+    write_calls(trace + FULLERECRU_LIMITS_BYTES);
+    refused |= fullerecru_replay(trace, sizeof trace, answers, CALLS * FULLERECRU_ROW, plan,
+                                 FULLERECRU_PLAN, told);
+    if (refused != FULLERECRU_ACCEPTED) {
+        return;
+    }
+    for (size_t k = 0; k < CALLS; k++) {
+        print_list("answer", answers + k * FULLERECRU_ROW, FULLERECRU_ROW);
+    }
+    printf("held %" PRIu64 ", ", told[0]);
+    print_list("plan", plan, (size_t)told[0] + 1);
 }
 
 int main(void)
 {
     run_row();
-    plan_pair();
+    run_tape();
+    run_trace();
     return 0;
 }

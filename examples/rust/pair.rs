@@ -1,4 +1,5 @@
-//! The planner from Rust: the C functions behind a type that lends its own memory.
+//! The planner from Rust: its five functions behind a type that lends its own memory. The functions
+//! for tapes and traces are declared in the same way, from include/fullerecru.h.
 //!
 //!     rustc --edition 2021 -L target/staticlib -l static=fullerecru examples/rust/pair.rs -o target/pair
 

@@ -1,5 +1,5 @@
 //! Prints time and instructions of the proved planner beside those of the
-//! reference, and the speed of planlist. Ends badly where the two differ.
+//! reference, and the speed of planlist. Fails where the two differ.
 
 mod list;
 mod work;

@@ -13,7 +13,7 @@ pub struct Guarded<T> {
 }
 
 impl<T: Copy + PartialEq + Debug> Guarded<T> {
-    /// The list with guards of a value around it.
+    /// A copy of the list with guards of a value around it.
     pub fn new(list: &[T], guard: T) -> Guarded<T> {
         let guards = [guard; GUARDS];
         let all = [&guards, list, &guards].concat();
@@ -43,5 +43,11 @@ impl<T: Copy + PartialEq + Debug> Guarded<T> {
         for guard in guards {
             assert_eq!(*guard, self.guard, "memory beside the lent list changed");
         }
+    }
+
+    /// Panics where a guard or an item is not as it was before the call.
+    pub fn confirm_only_read(&self, before: &[T]) {
+        self.confirm();
+        assert!(self.list() == before, "a list lent to be read has changed");
     }
 }

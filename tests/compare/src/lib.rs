@@ -1,10 +1,11 @@
 //! The proved code as Rust calls, to be compared with the reference.
 //!
 //! `library` has the functions of the static library. `proved` calls them; what
-//! it lends stands between guards, and each call sees that they, and on a
-//! refusal everything lent, stay as they were. `programs` runs planlist and
-//! planreplay. `words` has the lists of numbers that stand for limits, blocks
-//! and blocks given out.
+//! it lends stands between guards, and each call sees that the guards and all
+//! that is lent to be read stay as they were, and on a refusal everything lent
+//! (but for the place of a tape's fault, which every call writes). `programs`
+//! runs planlist and planreplay. `words` has the lists of numbers that stand
+//! for limits, blocks and blocks given out.
 
 pub mod guarded;
 pub mod library;

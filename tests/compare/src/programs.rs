@@ -3,12 +3,12 @@
 use std::env;
 use std::io::{Read, Write};
 use std::path::PathBuf;
-use std::process::{Child, Command, Stdio};
-use std::thread;
+use std::process::{Child, Command, ExitStatus, Stdio};
+use std::thread::{self, JoinHandle};
 use std::time::{Duration, Instant};
 
 /// Longest time that one run may take.
-const PATIENCE: Duration = Duration::from_secs(20);
+const LONGEST_RUN: Duration = Duration::from_secs(20);
 
 /// The program that an environment variable names, else the one of the name
 /// that the project has built.
@@ -49,39 +49,60 @@ pub fn text_of(mut child: Child) -> String {
         let mut text = String::new();
         output.read_to_string(&mut text).map(|_| text)
     });
-    let begin = Instant::now();
-    let mut pause = Duration::from_micros(100);
-    let status = loop {
-        if let Some(status) = child.try_wait().expect("a child that runs") {
-            break status;
-        }
-        if begin.elapsed() > PATIENCE {
-            let _ = child.kill();
-            panic!("the program does not end");
-        }
-        thread::sleep(pause);
-        pause = (pause * 2).min(Duration::from_millis(5));
-    };
+    let status = status_of(child);
     let text = reader.join().expect("no panic").expect("text");
     assert!(status.success(), "{status} after {text:?}");
     text
 }
 
-/// What the program writes for an input that comes in pieces of some bytes.
-pub fn run_in_pieces(program: &PathBuf, input: &[u8], piece: usize) -> String {
-    let mut child = start(program, Stdio::piped(), Stdio::piped());
+/// The status with which the program ends by itself; panics if it does not end
+/// in time.
+fn status_of(mut child: Child) -> ExitStatus {
+    let begin = Instant::now();
+    let mut pause = Duration::from_micros(100);
+    loop {
+        if let Some(status) = child.try_wait().expect("a child that runs") {
+            return status;
+        }
+        if begin.elapsed() > LONGEST_RUN {
+            let _ = child.kill();
+            panic!("the program does not end");
+        }
+        thread::sleep(pause);
+        pause = (pause * 2).min(Duration::from_millis(5));
+    }
+}
+
+/// Writes the input into the program's pipe, in pieces of some bytes. A program
+/// that has seen enough closes the pipe: that ends the writing.
+fn feed(child: &mut Child, input: &[u8], piece: usize) -> JoinHandle<usize> {
     let mut pipe = child.stdin.take().expect("piped");
     let input = input.to_vec();
-    // a program that has seen enough closes the pipe: that ends the writing
-    let writer = thread::spawn(move || {
+    thread::spawn(move || {
         let pieces = input.chunks(piece.max(1));
         pieces
             .take_while(|part| pipe.write_all(part).is_ok())
             .count()
-    });
+    })
+}
+
+/// What the program writes for an input that comes in pieces of some bytes.
+pub fn run_in_pieces(program: &PathBuf, input: &[u8], piece: usize) -> String {
+    let mut child = start(program, Stdio::piped(), Stdio::piped());
+    let writer = feed(&mut child, input, piece);
     let text = text_of(child);
     writer.join().expect("no panic");
     text
+}
+
+/// The status with which the program ends for an input when its text goes to
+/// the output.
+pub fn status_with(program: &PathBuf, input: &[u8], output: Stdio) -> ExitStatus {
+    let mut child = start(program, Stdio::piped(), output);
+    let writer = feed(&mut child, input, usize::MAX);
+    let status = status_of(child);
+    writer.join().expect("no panic");
+    status
 }
 
 /// What the program writes for an input.

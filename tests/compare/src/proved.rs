@@ -1,5 +1,6 @@
-//! The calls of libfullerecru.a. Each lends lists between guards and
-//! sees that a refusal left every lent number and byte as it was.
+//! The calls of libfullerecru.a. Each lends copies between guards, and sees
+//! that what is lent to be read stays as it was, and after a refusal every
+//! lent number and byte.
 
 use std::fmt::Debug;
 
@@ -36,9 +37,11 @@ fn confirm<T: Copy + PartialEq + Debug>(number: u64, before: &[T], after: &Guard
 
 /// Limits read from the bytes.
 pub fn read_limits(bytes: &[u8]) -> Result<Limits, Refusal> {
+    let mut source = Guarded::new(bytes, BYTE_GUARD);
     let mut limits = numbers(9);
     let before = limits.list().to_vec();
-    let number = unsafe { fullerecru_read_limits(bytes.as_ptr(), bytes.len(), limits.lend()) };
+    let number = unsafe { fullerecru_read_limits(source.lend(), bytes.len(), limits.lend()) };
+    source.confirm_only_read(bytes);
     confirm(number, &before, &limits);
     answer_of(number).map(|()| limits_of(limits.list()))
 }
@@ -47,7 +50,9 @@ pub fn read_limits(bytes: &[u8]) -> Result<Limits, Refusal> {
 pub fn write_limits(limits: &Limits, bytes: &mut [u8]) -> Result<(), Refusal> {
     let mut part = Guarded::new(bytes, BYTE_GUARD);
     let words = limit_words(limits);
-    let number = unsafe { fullerecru_write_limits(words.as_ptr(), part.lend(), bytes.len()) };
+    let mut source = Guarded::new(&words, GUARD);
+    let number = unsafe { fullerecru_write_limits(source.lend(), part.lend(), bytes.len()) };
+    source.confirm_only_read(&words);
     confirm(number, bytes, &part);
     bytes.copy_from_slice(part.list());
     answer_of(number)
@@ -55,10 +60,12 @@ pub fn write_limits(limits: &Limits, bytes: &mut [u8]) -> Result<(), Refusal> {
 
 /// A record read from the bytes.
 pub fn read_record(bytes: &[u8]) -> Result<Block, Refusal> {
+    let mut source = Guarded::new(bytes, BYTE_GUARD);
     let (mut moves, mut rest) = (three_moves(), numbers(3));
     let before = (moves.list().to_vec(), rest.list().to_vec());
-    let number =
-        unsafe { fullerecru_read_record(bytes.as_ptr(), bytes.len(), moves.lend(), rest.lend()) };
+    let count = bytes.len();
+    let number = unsafe { fullerecru_read_record(source.lend(), count, moves.lend(), rest.lend()) };
+    source.confirm_only_read(bytes);
     confirm(number, &before.0, &moves);
     confirm(number, &before.1, &rest);
     answer_of(number)?;
@@ -87,11 +94,13 @@ pub fn write_record(block: &Block, bytes: &mut [u8]) -> Result<(), Refusal> {
 
 /// The plan of a whole tape in the list. The place is written by every call.
 pub fn plan_tape(tape: &[u8], list: &mut [u64]) -> Result<(), Fault> {
+    let mut source = Guarded::new(tape, BYTE_GUARD);
     let mut lent = Guarded::new(list, GUARD);
     let mut place = numbers(1);
     let (count, junctions) = (tape.len(), list.len());
     let number =
-        unsafe { fullerecru_plan_tape(tape.as_ptr(), count, lent.lend(), junctions, place.lend()) };
+        unsafe { fullerecru_plan_tape(source.lend(), count, lent.lend(), junctions, place.lend()) };
+    source.confirm_only_read(tape);
     confirm(number, list, &lent);
     place.confirm();
     list.copy_from_slice(lent.list());
@@ -103,13 +112,14 @@ pub fn plan_tape(tape: &[u8], list: &mut [u64]) -> Result<(), Fault> {
 
 /// A trace run: rows in `answers`, plan in `plan`; gives the number told.
 pub fn replay(trace: &[u8], answers: &mut [u64], plan: &mut [u64]) -> Result<u64, Refusal> {
+    let mut source = Guarded::new(trace, BYTE_GUARD);
     let mut rows = Guarded::new(answers, GUARD);
     let mut shown = Guarded::new(plan, GUARD);
     let mut told = numbers(1);
     let before = told.list().to_vec();
     let number = unsafe {
         fullerecru_replay(
-            trace.as_ptr(),
+            source.lend(),
             trace.len(),
             rows.lend(),
             answers.len(),
@@ -118,6 +128,7 @@ pub fn replay(trace: &[u8], answers: &mut [u64], plan: &mut [u64]) -> Result<u64
             told.lend(),
         )
     };
+    source.confirm_only_read(trace);
     confirm(number, answers, &rows);
     confirm(number, plan, &shown);
     confirm(number, &before, &told);
@@ -145,11 +156,20 @@ impl Planner {
         self.memory.list()
     }
 
-    /// Runs a call on the memory.
+    /// Runs a call that may write the memory.
     fn call(&mut self, run: impl FnOnce(*mut u64) -> u64) -> u64 {
         let before = self.memory.list().to_vec();
         let number = run(self.memory.lend());
         confirm(number, &before, &self.memory);
+        number
+    }
+
+    /// Runs a call that reads the memory: it is lent a copy, which must stay
+    /// as it was.
+    fn call_to_read(&self, run: impl FnOnce(*const u64) -> u64) -> u64 {
+        let mut copy = self.memory.clone();
+        let number = run(copy.lend());
+        copy.confirm_only_read(self.memory.list());
         number
     }
 }
@@ -158,7 +178,10 @@ impl LookAhead for Planner {
     fn fresh(limits: &Limits) -> Result<Planner, Refusal> {
         let mut planner = Planner::of_memory(&[FILLER; NUMBERS]);
         let words = limit_words(limits);
-        let number = planner.call(|memory| unsafe { fullerecru_fresh(memory, words.as_ptr()) });
+        let mut source = Guarded::new(&words, GUARD);
+        let lent = source.lend();
+        let number = planner.call(|memory| unsafe { fullerecru_fresh(memory, lent) });
+        source.confirm_only_read(&words);
         answer_of(number).map(|()| planner)
     }
 
@@ -183,13 +206,13 @@ impl LookAhead for Planner {
     }
 
     fn told(&self) -> usize {
-        unsafe { fullerecru_told(self.memory.list().as_ptr()) as usize }
+        self.call_to_read(|memory| unsafe { fullerecru_told(memory) }) as usize
     }
 
     fn shown(&self, list: &mut [u64]) -> Result<(), Refusal> {
         let mut lent = Guarded::new(list, GUARD);
-        let memory = self.memory.list().as_ptr();
-        let number = unsafe { fullerecru_shown(memory, lent.lend(), list.len()) };
+        let (to, count) = (lent.lend(), list.len());
+        let number = self.call_to_read(|memory| unsafe { fullerecru_shown(memory, to, count) });
         confirm(number, list, &lent);
         list.copy_from_slice(lent.list());
         answer_of(number)

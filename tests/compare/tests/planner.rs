@@ -179,7 +179,8 @@ fn planners_do_not_disturb_one_another() {
 }
 
 /// On memory that no planner made, every call returns a number of its own and
-/// writes nothing beside what is lent.
+/// writes nothing beside what is lent; 0 to 64 blocks are told, and their plan
+/// is shown.
 #[test]
 fn memory_of_noise_is_no_danger() {
     let mut count = 0;
@@ -196,10 +197,9 @@ fn memory_of_noise_is_no_danger() {
             };
             assert!(own, "seed {seed}: {call:?} refused by {refused:?}");
             let held = planner.told();
-            if held <= 64 {
-                let shown = plan(&planner, held + 1).0;
-                assert_eq!(shown, Ok(()), "seed {seed}");
-            }
+            assert!(held <= 64, "seed {seed}: {held} told");
+            let shown = plan(&planner, held + 1).0;
+            assert_eq!(shown, Ok(()), "seed {seed}");
             count += 1;
         }
     }

@@ -4,7 +4,7 @@ use std::fs::File;
 use std::io::Write;
 use std::process::Stdio;
 
-use compare::programs::{planlist, planreplay, run, run_in_pieces, start, text_of};
+use compare::programs::*;
 use compare::{hex, report, same};
 use reference::examples::{example, example_trace, NAMES, TRACE_NAMES};
 use reference::generate::*;
@@ -12,8 +12,11 @@ use reference::incremental::Planner;
 use reference::listing;
 use reference::machine::{Block, Limits};
 use reference::rng::Rng;
-use reference::tape::{Tape, MOST_BLOCKS, MOST_BYTES};
-use reference::trace::{pack_trace, Call};
+use reference::tape::{Tape, LIMITS_BYTES, MOST_BLOCKS, MOST_BYTES};
+use reference::trace::{pack_trace, Call, CALL_BYTES};
+
+/// Calls that planreplay reads and runs at a time.
+const CHUNK_CALLS: usize = 300;
 
 /// Limits at the ends of their ranges: everything slowest, everything fastest.
 const ENDS: [Limits; 2] = [
@@ -130,7 +133,7 @@ fn planlist_ends_on_endless_input() {
     let tape = example("mould-row").expect("an example").pack();
     // until planlist has closed the pipe, which stays open on this side
     let taken = (0..2_000).take_while(|_| pipe.write_all(&tape).is_ok());
-    assert!(taken.count() < 2_000, "planlist reads on and on");
+    assert!(taken.count() < 2_000, "planlist does not stop reading");
     assert_eq!(text_of(child), "refused 10 at 0\n");
     report(2, "endless inputs");
 }
@@ -184,6 +187,28 @@ fn planreplay_answers_empty_and_ragged_input() {
     report(111, "empty and ragged traces");
 }
 
+/// Traces that end at the borders of the chunks, 300 calls each, that
+/// planreplay reads, and traces of no call; then 0, 1 and 27 bytes of a call
+/// that is cut short.
+#[test]
+fn planreplay_answers_at_the_borders_of_its_chunks() {
+    let mut rng = Rng::new(4);
+    let limits = limits(&mut rng);
+    let whole = pack_trace(&limits, &calls(&mut rng, 2 * CHUNK_CALLS + 2));
+    let mut count = 0;
+    for chunks in 0..=2 {
+        let border = chunks * CHUNK_CALLS;
+        for calls in border.saturating_sub(1)..=border + 1 {
+            for more in [0, 1, CALL_BYTES - 1] {
+                let length = LIMITS_BYTES + calls * CALL_BYTES + more;
+                compare_replay(length as u64, &whole[..length]);
+                count += 1;
+            }
+        }
+    }
+    report(count, "traces that end at a chunk's border");
+}
+
 /// A trace far longer than any buffer.
 #[test]
 fn planreplay_runs_a_long_trace() {
@@ -193,4 +218,31 @@ fn planreplay_runs_a_long_trace() {
     let text = run(&planreplay(), &trace);
     assert!(text == listing::planreplay_by::<Planner>(&trace));
     report(100_000, "calls of a long trace");
+}
+
+/// Every write to /dev/full fails. A program that could not write its text ends
+/// with a status of its own other than 0, whether the text is a refusal, short
+/// or longer than any buffer.
+#[test]
+fn a_failed_write_is_told_by_the_status() {
+    let limits = machine_m();
+    let blocks = short_steps(5, MOST_BLOCKS);
+    let adds: Vec<Call> = blocks.iter().map(|b| Call::Add(*b)).collect();
+    let (long_trace, long_tape) = (pack_trace(&limits, &adds), Tape { limits, blocks }.pack());
+    let short_tape = example("right-angle").expect("an example").pack();
+    let short_trace = example_trace("shop-traffic").expect("an example");
+    let runs = [
+        (planlist(), [&[][..], &short_tape, &long_tape]),
+        (planreplay(), [&[][..], &short_trace, &long_trace]),
+    ];
+    for (program, inputs) in runs {
+        for input in inputs {
+            let full = File::create("/dev/full").expect("/dev/full");
+            let status = status_with(&program, input, Stdio::from(full));
+            let told = status.code().is_some_and(|code| code != 0);
+            let name = program.display();
+            assert!(told, "{name}, {} bytes: {status}", input.len());
+        }
+    }
+    report(6, "texts that could not be written");
 }

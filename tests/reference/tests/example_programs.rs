@@ -1,0 +1,167 @@
+//! What the example programs in C and in Rust must print, worked out here.
+
+use reference::examples::right_angle;
+use reference::generate::machine_m;
+use reference::line::{Line, LookAhead};
+use reference::machine::{Block, Given, Limits, Ramp};
+use reference::tape::{plan_tape, read_limits, read_record, LIMITS_BYTES, RECORD_BYTES};
+
+const FEED_TEXT: &str = include_str!("../../../examples/c/expected.txt");
+const PAIR_TEXT: &str = include_str!("../../../examples/rust/expected.txt");
+
+/// feed.c's row: moves X, Y, Z and radius, µm; and how many it holds ahead.
+const ROW: [[i64; 4]; 9] = [
+    [2000, 0, 0, 0],
+    [500, 0, 230, 3000],
+    [500, 0, 140, 3000],
+    [500, 0, 45, 3000],
+    [500, 0, -45, 3000],
+    [500, 0, -140, 3000],
+    [500, 0, -230, 3000],
+    [2000, 0, 0, 0],
+    [0, 200, 0, 0],
+];
+const AHEAD: usize = 5;
+
+/// A name and numbers, parted by spaces.
+fn list(name: &str, numbers: &[u64]) -> String {
+    let text: String = numbers.iter().map(|n| format!(" {n}")).collect();
+    format!("{name}{text}\n")
+}
+
+/// A take as feed.c prints it.
+fn taken(line: &mut Line) -> String {
+    let given = match line.take() {
+        Ok(given) => given,
+        Err(refusal) => return format!("take refused by {}\n", refusal.number()),
+    };
+    let Given { block, ramp, .. } = &given;
+    let [x, y, z] = block.moves;
+    let Ramp {
+        peak,
+        up,
+        cruise,
+        down,
+    } = ramp;
+    format!(
+        "mark {} move {x} {y} {z} length {} accel {} entry {} peak {peak} exit {} \
+         up {up} cruise {cruise} down {down}\n",
+        block.mark, given.length, given.accel, given.entry, given.exit
+    )
+}
+
+/// The number held and the plan as feed.c prints them.
+fn held(line: &Line) -> String {
+    format!("held {}, {}", line.told(), list("plan", &line.profile()))
+}
+
+/// feed.c's row, block by block, with a block that does not move.
+fn row_text() -> String {
+    let mut text = String::new();
+    let mut line = Line::fresh(&machine_m()).unwrap();
+    for (k, [x, y, z, radius]) in ROW.into_iter().enumerate() {
+        if line.told() == AHEAD {
+            text += &taken(&mut line);
+        }
+        let block = Block {
+            moves: [x, y, z],
+            feed: 20_000,
+            radius: radius as u64,
+            mark: k as u64 + 1,
+        };
+        line.add(&block).unwrap();
+    }
+    text += &held(&line);
+    let still = Block {
+        moves: [0; 3],
+        feed: 20_000,
+        radius: 0,
+        mark: 0,
+    };
+    let refusal = line.add(&still).unwrap_err().number();
+    text += &format!("a block that does not move: refused by {refusal}\n");
+    text += &held(&line);
+    while line.told() != 0 {
+        text += &taken(&mut line);
+    }
+    text + &taken(&mut line)
+}
+
+/// The right-angle pair's tape, read back and planned, then spoiled.
+fn tape_text() -> String {
+    let mut tape = right_angle().pack();
+    let Limits {
+        accel,
+        speed,
+        jump,
+        chord,
+        tick,
+    } = read_limits(&tape).unwrap();
+    let mut text = list(
+        "limits",
+        &[&accel[..], &speed, &[jump, chord, tick]].concat(),
+    );
+    for record in tape[LIMITS_BYTES..].chunks(RECORD_BYTES) {
+        let block = read_record(record).unwrap();
+        let [x, y, z] = block.moves;
+        text += &format!("record move {x} {y} {z} feed {}", block.feed);
+        text += &format!(" radius {} mark {}\n", block.radius, block.mark);
+    }
+    let mut plan = [0; 3];
+    plan_tape(&tape, &mut plan).unwrap();
+    text += &list("tape of 2 blocks, plan", &plan);
+    tape[LIMITS_BYTES + RECORD_BYTES..].fill(0);
+    let fault = plan_tape(&tape, &mut plan).unwrap_err();
+    let (number, place) = (fault.refusal.number(), fault.place);
+    text + &format!("tape refused by {number} at {place}\n")
+}
+
+/// Feed, radius, mark, length, acceleration, entry, exit, peak and ramp.
+fn given_numbers(given: &Given) -> [u64; 11] {
+    let Given {
+        block: b, ramp: r, ..
+    } = given;
+    let [length, accel, entry, exit] = [given.length, given.accel, given.entry, given.exit];
+    [
+        b.feed, b.radius, b.mark, length, accel, entry, exit, r.peak, r.up, r.cruise, r.down,
+    ]
+}
+
+/// feed.c's trace: a take too early, the pair's two adds, and a take.
+fn trace_text() -> String {
+    let pair = right_angle();
+    let mut line = Line::fresh(&pair.limits).unwrap();
+    let mut rows = [[0; 15]; 4];
+    rows[0][0] = line.take().unwrap_err().number();
+    pair.blocks.iter().for_each(|b| line.add(b).unwrap());
+    let given = line.take().unwrap();
+    rows[3][1..4].copy_from_slice(&given.block.moves.map(|m| m as u32 as u64));
+    rows[3][4..].copy_from_slice(&given_numbers(&given));
+    let text: String = rows.iter().map(|row| list("answer", row)).collect();
+    text + &held(&line)
+}
+
+/// What pair.rs prints: the pair's plan, its blocks, and a take too many.
+fn pair_text() -> String {
+    let pair = right_angle();
+    let mut line = Line::fresh(&pair.limits).unwrap();
+    pair.blocks.iter().for_each(|b| line.add(b).unwrap());
+    let mut text = format!("plan {:?}\n", line.profile());
+    for _ in 0..3 {
+        text += &match line.take() {
+            Ok(given) => format!("{:?} {:?}\n", given.block.moves, given_numbers(&given)),
+            Err(refusal) => format!("refused {}\n", refusal.number()),
+        };
+    }
+    text
+}
+
+#[test]
+fn c_example_prints_these_numbers() {
+    assert_eq!(FEED_TEXT, row_text() + &tape_text() + &trace_text());
+}
+
+#[test]
+fn rust_example_prints_these_numbers() {
+    assert_eq!(PAIR_TEXT, pair_text());
+}
