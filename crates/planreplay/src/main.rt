@@ -9,6 +9,7 @@ ghost use lib.ListN.{length};
 ghost use Rattle.replaylist.specs.Texts.{cutPlace};
 ghost use Rattle.replaylist.specs.Turns.{chunkBytes};
 ghost use Rattle.planreplay.specs.Places.{endCalls};
+use libc::STDERR_FILENO;
 use libc::STDIN_FILENO;
 use libc::STDOUT_FILENO;
 use listing::Put;
@@ -26,34 +27,59 @@ const CHUNK: usize = CALL_BYTES * replaylist::CALLS;
 // Reading ends at this many calls, which no input has.
 const MOST_CALLS: u64 = 18_446_744_073_709_551_000;
 
-// Writes the first n bytes of a text.
-fn say(n: usize, text: &[u8])
-    requires { ⌜ n ≤ length (now text) ⌝ }
-{
-    io::write_all(STDOUT_FILENO, &text[..n]);
+// A chunk that was run: how many bytes were read, and whether its lines were written.
+struct Turn {
+    got: usize,
+    written: bool,
 }
 
-// Writes the line of a refusal with its place.
-fn say_refused(number: u64, place: u64, text: &mut [u8]) {
+// How running all calls ended.
+enum Ended {
+    // the place from 1 of the call that the input ends inside; 0 where it ends with a whole call
+    At(u64),
+    // standard output did not take the lines
+    Unwritten,
+}
+
+// Writes the first n bytes of a text. Returns whether all were taken.
+fn say(n: usize, text: &[u8]) -> bool
+    requires { ⌜ n ≤ length (now text) ⌝ }
+{
+    io::write_all(STDOUT_FILENO, &text[..n])
+}
+
+// Says that not all lines were written.
+fn say_failed() {
+    io::write_all(
+        STDERR_FILENO,
+        b"planreplay: standard output did not take all lines\n",
+    );
+}
+
+// Writes the line of a refusal with its place. Returns whether it was taken.
+fn say_refused(number: u64, place: u64, text: &mut [u8]) -> bool {
     match listing::put_refused_at(text, 0, number, place) {
         Put::At(end) => say(end, text),
         Put::NoRoom => say(0, text),
     }
 }
 
-// Reads a chunk, runs its calls and writes their lines. Returns how many bytes were read.
-fn run_next(chunk: &mut [u8], memory: &mut [u64; NUMBERS], text: &mut [u8; TEXT]) -> usize
-    ensures { λ r. ⌜ r ≤ length (now (chunk .entry)) ⌝ }
+// Reads a chunk, runs its calls and writes their lines.
+fn run_next(chunk: &mut [u8], memory: &mut [u64; NUMBERS], text: &mut [u8; TEXT]) -> Turn
+    ensures { λ r. ⌜ r .got ≤ length (now (chunk .entry)) ⌝ }
 {
     let got = io::read_full(STDIN_FILENO, chunk);
     let end = replaylist::run_chunk(&chunk[..got], memory, text);
-    say(end, text);
-    got
+    let written = say(end, text);
+    Turn {
+        got: got,
+        written: written,
+    }
 }
 
 // The same with a chunk of 300 calls.
-fn run_chunk(chunk: &mut [u8; CHUNK], memory: &mut [u64; NUMBERS], text: &mut [u8; TEXT]) -> usize
-    ensures { λ r. ⌜ r ≤ chunkBytes ⌝ }
+fn run_chunk(chunk: &mut [u8; CHUNK], memory: &mut [u64; NUMBERS], text: &mut [u8; TEXT]) -> Turn
+    ensures { λ r. ⌜ r .got ≤ chunkBytes ⌝ }
 {
     run_next(chunk, memory, text)
 }
@@ -70,34 +96,47 @@ fn cut_at(calls: u64, bytes: usize) -> u64
     calls + (bytes / CALL_BYTES) as u64 + 1
 }
 
-// Runs all calls of the input. Returns the place of the call that it ends inside, or 0.
-fn run_calls(memory: &mut [u64; NUMBERS], text: &mut [u8; TEXT]) -> u64 {
+// Runs all calls of the input, as long as their lines are taken.
+fn run_calls(memory: &mut [u64; NUMBERS], text: &mut [u8; TEXT]) -> Ended {
     let mut chunk = [0u8; CHUNK];
     let mut calls: u64 = 0;
     while calls < MOST_CALLS {
-        let got = run_chunk(&mut chunk, memory, text);
-        if got < CHUNK {
-            return cut_at(calls, got);
+        let turn = run_chunk(&mut chunk, memory, text);
+        if !turn.written {
+            return Ended::Unwritten;
+        }
+        if turn.got < CHUNK {
+            return Ended::At(cut_at(calls, turn.got));
         }
         calls += replaylist::CALLS as u64;
     }
-    0
+    Ended::At(0)
 }
 
-// Runs the calls behind the limits, and closes.
-fn replay(l: Limits, text: &mut [u8; TEXT]) {
+// Writes the line of a call that the input ends inside, where there is one, and the closing lines.
+// Returns whether they were taken.
+fn finish(place: u64, memory: &[u64; NUMBERS], text: &mut [u8; TEXT]) -> bool {
+    if 0 < place {
+        if !say_refused(refusal_number(Refusal::Ragged), place, text) {
+            return false;
+        }
+    }
+    let end = replaylist::close(memory, text);
+    say(end, text)
+}
+
+// Runs the calls behind the limits, and closes. Returns whether all lines were taken.
+fn replay(l: Limits, text: &mut [u8; TEXT]) -> bool {
     let mut memory = [0u64; NUMBERS];
     planner::fresh(&mut memory, l);
-    let place = run_calls(&mut memory, text);
-    if 0 < place {
-        say_refused(refusal_number(Refusal::Ragged), place, text);
+    match run_calls(&mut memory, text) {
+        Ended::At(place) => finish(place, &memory, text),
+        Ended::Unwritten => false,
     }
-    let end = replaylist::close(&memory, text);
-    say(end, text);
 }
 
-// What the bytes of the limits say decides.
-fn start(head: &[u8], text: &mut [u8; TEXT]) {
+// What the bytes of the limits say decides. Returns whether all lines were taken.
+fn start(head: &[u8], text: &mut [u8; TEXT]) -> bool {
     match tape::limits::read_limits(head) {
         LimitsRead::Read(l) => replay(l, text),
         LimitsRead::Refused(why) => say_refused(refusal_number(why), 0, text),
@@ -108,5 +147,7 @@ fn main() {
     let mut text = io::large_buffer();
     let mut head = [0u8; LIMITS_BYTES];
     let got = io::read_full(STDIN_FILENO, &mut head);
-    start(&head[..got], &mut text);
+    if !start(&head[..got], &mut text) {
+        say_failed();
+    }
 }

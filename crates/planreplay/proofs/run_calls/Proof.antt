@@ -17,11 +17,14 @@ loop-holds c = tt
 run-chunk-requires : tie.Need-run-chunk-requires Inv-loop μ-loop
 run-chunk-requires c κs = search needs
 
+returns : tie.Need-returns Inv-loop μ-loop
+returns c = tt
+
 cut-at-requires : tie.Need-cut-at-requires Inv-loop μ-loop
 cut-at-requires c κs = search needs
 
-returns : tie.Need-returns Inv-loop μ-loop
-returns c = tt
+returns-2 : tie.Need-returns-2 Inv-loop μ-loop
+returns-2 c = tt
 
 add-calls : tie.Need-add-calls Inv-loop μ-loop
 add-calls c = search needs
@@ -32,8 +35,8 @@ loop-less c = search needs
 loop-again : tie.Need-loop-again Inv-loop μ-loop
 loop-again c = tt
 
-returns-2 : tie.Need-returns-2 Inv-loop μ-loop
-returns-2 c = tt
+returns-3 : tie.Need-returns-3 Inv-loop μ-loop
+returns-3 c = tt
 
 pub run-calls-spec : {M : Type 1} → statement M
 run-calls-spec =
@@ -43,9 +46,10 @@ run-calls-spec =
     μ-loop
     loop-holds
     run-chunk-requires
-    cut-at-requires
     returns
+    cut-at-requires
+    returns-2
     add-calls
     loop-less
     loop-again
-    returns-2)
+    returns-3)
