@@ -95,14 +95,22 @@ pub fn run_in_pieces(program: &PathBuf, input: &[u8], piece: usize) -> String {
     text
 }
 
-/// The status with which the program ends for an input when its text goes to
-/// the output.
-pub fn status_with(program: &PathBuf, input: &[u8], output: Stdio) -> ExitStatus {
-    let mut child = start(program, Stdio::piped(), output);
+/// What the program writes to standard error for an input when its text goes
+/// to the output.
+pub fn complaint(program: &PathBuf, input: &[u8], output: Stdio) -> String {
+    let mut child = Command::new(program)
+        .stdin(Stdio::piped())
+        .stdout(output)
+        .stderr(Stdio::piped())
+        .spawn()
+        .unwrap_or_else(|error| panic!("{}: {error}", program.display()));
+    let mut errors = child.stderr.take().expect("piped");
     let writer = feed(&mut child, input, usize::MAX);
-    let status = status_of(child);
+    status_of(child);
     writer.join().expect("no panic");
-    status
+    let mut text = String::new();
+    errors.read_to_string(&mut text).expect("text");
+    text
 }
 
 /// What the program writes for an input.

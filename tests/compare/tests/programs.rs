@@ -220,11 +220,11 @@ fn planreplay_runs_a_long_trace() {
     report(100_000, "calls of a long trace");
 }
 
-/// Every write to /dev/full fails. A program that could not write its text ends
-/// with a status of its own other than 0, whether the text is a refusal, short
-/// or longer than any buffer.
+/// Every write to /dev/full fails. A program that could not write its text says
+/// so once on standard error and ends, whether the text is a refusal, short or
+/// longer than any buffer.
 #[test]
-fn a_failed_write_is_told_by_the_status() {
+fn a_failed_write_is_told_on_standard_error() {
     let limits = machine_m();
     let blocks = short_steps(5, MOST_BLOCKS);
     let adds: Vec<Call> = blocks.iter().map(|b| Call::Add(*b)).collect();
@@ -238,10 +238,10 @@ fn a_failed_write_is_told_by_the_status() {
     for (program, inputs) in runs {
         for input in inputs {
             let full = File::create("/dev/full").expect("/dev/full");
-            let status = status_with(&program, input, Stdio::from(full));
-            let told = status.code().is_some_and(|code| code != 0);
+            let text = complaint(&program, input, Stdio::from(full));
+            let told = text.lines().count() == 1 && text.contains("did not take");
             let name = program.display();
-            assert!(told, "{name}, {} bytes: {status}", input.len());
+            assert!(told, "{name}, {} bytes: {text:?}", input.len());
         }
     }
     report(6, "texts that could not be written");
