@@ -146,16 +146,13 @@ pub fn numbers_in(memory: &[u64], at: usize) -> Numbers
 }
 
 // The greatest squared speed where a place's block begins from which it and the blocks after it can
-// brake, (µm/s)².
-pub fn brake_at(memory: &[u64], at: usize) -> u64
-    requires { ⌜ (length (now memory) ≡ memorySize) × (at ≤ 768) ⌝ }
+// brake, (µm/s)². The place's own limit is handed in: the walk back has just stored it, and reading it
+// again would wait for the store.
+pub fn brake_at(memory: &[u64], at: usize, limit: u64) -> u64
+    requires { ⌜ (length (now memory) ≡ memorySize) × (at ≤ 768) × (limit ≡ placeFrom (now memory) at .limit) ⌝ }
     ensures { λ r. ⌜ r ≡ brakeIn (placeFrom (now (memory .entry)) at) ⌝ }
 {
-    brake_from(
-        memory[at + JUNCTION],
-        memory[at + REACH],
-        memory[at + LIMIT],
-    )
+    brake_from(memory[at + JUNCTION], memory[at + REACH], limit)
 }
 
 // The squared speed at the end of a place's block, from its entry.

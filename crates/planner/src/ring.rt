@@ -69,8 +69,9 @@ fn walk_back(memory: &mut [u64], count: u64)
 {
     let mut k = count;
     let mut after = place(memory[FIRST], k);
+    let mut limit = memory[after + LIMIT];
     while 0 < k {
-        let limit = brake_at(memory, after);
+        limit = brake_at(memory, after, limit);
         k -= 1;
         let at = place_before(after);
         if memory[at + LIMIT] == limit {

@@ -4,23 +4,25 @@ use Prim.Native.Nat.{ℕ, _+_, _-_, _%_, _≤_}
 use borrow.Author.Needs.{needs}
 use native.Mathlib.Omega.{arith}
 use lib.ListN.{length, length-set}
+use lib.Seq.{getD-set-same}
 use Rattle.line.specs.Blocks.{mostHeld}
 use Rattle.line.specs.Ring.{slot, walkBack}
-use Rattle.planner.specs.View.{memorySize, baseOf, viewOf}
+use Rattle.planner.specs.View.{memorySize, baseOf, placeFrom, viewOf}
 use Rattle.planner.proofs.Steps.{begins-before, walk-ends, walk-goes-on, walk-first}
 use Rattle.planner.proofs.ring.walk_back.Tie as tie
 use Rattle.planner.proofs.ring.walk_back.Statement.{statement}
 
 abbrev Inv-loop : tie.InvT-loop
-Inv-loop memory₀ count k₀ after₀ memory k after =
+Inv-loop memory₀ count k₀ after₀ limit₀ memory k after limit =
     (length memory ≡ memorySize)
     × (after ≤ 768)
     × (after ≡ baseOf (slot (viewOf memory) k))
     × (k ≤ count)
     × (walkBack k (viewOf memory) ≡ walkBack count (viewOf memory₀))
+    × (limit ≡ placeFrom memory after .limit)
 
 abbrev μ-loop : tie.MeasureT-loop
-μ-loop memory₀ count k₀ after₀ memory k after = k
+μ-loop memory₀ count k₀ after₀ limit₀ memory k after limit = k
 
 -- where the block before begins
 module _ (c : tie.After-place-before Inv-loop μ-loop) where
@@ -39,12 +41,23 @@ slice-read-place c = search needs
 place-requires : tie.Need-place-requires Inv-loop μ-loop
 place-requires c κs = search needs
 
+add-limit : tie.Need-add-limit Inv-loop μ-loop
+add-limit c = search needs
+
+mul-limit : tie.Need-mul-limit Inv-loop μ-loop
+mul-limit c = search needs
+
+slice-read-limit : tie.Need-slice-read-limit Inv-loop μ-loop
+slice-read-limit c = search needs
+
 loop-holds : tie.Need-loop-holds Inv-loop μ-loop
-unfolding viewOf
-loop-holds c = (c .before .before .before .pre, c .place .ensures .1, c .place .ensures .0, omega arith, refl)
+unfolding viewOf placeFrom
+loop-holds c =
+    let p = c .before in
+    (p .before .before .before .pre, p .place .ensures .1, p .place .ensures .0, omega arith, refl, refl)
 
 brake-at-requires : tie.Need-brake-at-requires Inv-loop μ-loop
-brake-at-requires c κs = search needs
+brake-at-requires c κs = let inv = c .before .before .loop .inv in (inv .0, inv .1, inv .5)
 
 sub-k : tie.Need-sub-k Inv-loop μ-loop
 sub-k c = search needs
@@ -87,6 +100,7 @@ loop-less : tie.Need-loop-less Inv-loop μ-loop
 loop-less c = search needs
 
 loop-again : tie.Need-loop-again Inv-loop μ-loop
+unfolding placeFrom
 loop-again c =
     let d = c .before .before in
     let w = head d in
@@ -99,6 +113,7 @@ loop-again c =
       at-is d ∙ ap (λ (f : ℕ). baseOf ((f + (n - 1)) % mostHeld)) (sym first),
       omega arith,
       walk-goes-on _ n (n - 1) _ _ _ (omega arith) (inv .2) (at-is d) e (inv .0) (c .if1 .left) ∙ inv .4,
+      sym (getD-set-same (w .loop .memory) (d .place-before .result + 11) _ 0 (omega (arith, within d, inv .0))),
     )
 
 same-length-2 : tie.Need-same-length-2 Inv-loop μ-loop
@@ -112,4 +127,4 @@ returns-2 c =
 
 pub walk-back-spec : {M : Type 1} → statement M
 walk-back-spec =
-    tie.close (tie.spec Inv-loop μ-loop slice-read-place place-requires loop-holds brake-at-requires sub-k place-before-requires add-if1 mul-if1 slice-read-if1 same-length returns add-memory mul-memory slice-write-memory loop-less loop-again same-length-2 returns-2)
+    tie.close (tie.spec Inv-loop μ-loop slice-read-place place-requires add-limit mul-limit slice-read-limit loop-holds brake-at-requires sub-k place-before-requires add-if1 mul-if1 slice-read-if1 same-length returns add-memory mul-memory slice-write-memory loop-less loop-again same-length-2 returns-2)
