@@ -5,7 +5,7 @@ use Prim.Native.Nat.{ℕ}
 use lib.IntN.{ℤ}
 use Rattle.machine.specs.declared.Block.{Block}
 use Rattle.machine.specs.declared.Limits.{Limits}
-use Rattle.planner.specs.View.{limitNumbers}
+use Rattle.machine.specs.Lists.{limitNumbers}
 use Rattle.tape.specs.Tape.{limitsAt, blockAt}
 use Rattle.tape.specs.Display.{byNumber, limitsReadRefusal, recordReadRefusal}
 use Rattle.fullerecru.specs.Moves.{blockMoves}

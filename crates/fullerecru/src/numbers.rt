@@ -2,7 +2,7 @@
 ghost use mathlib.Core.Path.{_≡_};
 ghost use lib.ListN.{length};
 ghost use Rattle.machine.specs.Checks.{checkedNumber};
-ghost use Rattle.planner.specs.View.{limitsFrom};
+ghost use Rattle.machine.specs.Lists.{limitsFrom};
 ghost use Rattle.fullerecru.specs.Moves.{blockMoves};
 use machine::Axes;
 use machine::Block;

@@ -6,7 +6,7 @@ ghost use Rattle.line.specs.Answers.{addMeans, showMeans};
 ghost use Rattle.line.specs.Blocks as blocks;
 ghost use Rattle.planner.specs.Calls.{Freshened, Told};
 ghost use Rattle.fullerecru.specs.Planners.{Exported, Gave, Lent, Listed, answerNumber};
-ghost use Rattle.planner.specs.View.{limitsFrom};
+ghost use Rattle.machine.specs.Lists.{limitsFrom};
 use crate::numbers::checked_number;
 use crate::numbers::limits_of;
 use crate::numbers::put_moves;

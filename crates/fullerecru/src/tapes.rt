@@ -1,7 +1,7 @@
 // The tape's readers and writers for C. Bytes are handed over as a pointer and their number.
 ghost use mathlib.Core.Path.{_≡_};
 ghost use lib.ListN.{length};
-ghost use Rattle.planner.specs.View.{limitsFrom};
+ghost use Rattle.machine.specs.Lists.{limitsFrom};
 ghost use Rattle.tape.specs.Display.{limitsWriteRefusal, limitsWritten, recordWriteRefusal, recordWritten};
 ghost use Rattle.fullerecru.specs.Tapes.{LimitsLent, PutBlock, RecordLent, Written, limitsList};
 use crate::numbers::checked_number;

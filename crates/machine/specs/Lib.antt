@@ -2,6 +2,7 @@
 pub mod Answers
 pub mod Checks
 pub mod Line
+pub mod Lists
 pub mod Meaning
 pub mod Numbers
 pub mod Ranges

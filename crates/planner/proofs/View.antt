@@ -13,7 +13,8 @@ use lib.Seq.{sets, sets-eq, drop-length, getD-set-same, getD-set-other, ext-getD
 use Rattle.machine.specs.declared.Limits.{Limits}
 use Rattle.line.specs.Blocks.{mostHeld}
 use Rattle.line.specs.Ring.{Place, Ring, noPlace, placeAt, slot, withPlace, withLimit, freshRing}
-use Rattle.planner.specs.View.{memorySize, headSize, placeSize, baseOf, placeFrom, numbersFor, placesFrom, limitsFrom, limitNumbers, viewOf}
+use Rattle.machine.specs.Lists.{limitNumbers, limitsFrom}
+use Rattle.planner.specs.View.{memorySize, headSize, placeSize, baseOf, placeFrom, numbersFor, placesFrom, viewOf}
 
 -- A list stored from its begin to its end is what was stored.
 pub sets-all : {A : Type 0} (vs l : List A) → length l ≡ length vs → sets l 0 vs ≡ vs

@@ -2,7 +2,7 @@
 use mathlib.Core.List.{List, [], _∷_}
 use Prim.Native.Nat.{ℕ, zero, suc, _+_, _*_}
 use lib.ListN.{getD}
-use Rattle.machine.specs.declared.Limits.{Limits}
+use Rattle.machine.specs.Lists.{limitsFrom}
 use Rattle.line.specs.Blocks.{mostHeld}
 use Rattle.line.specs.Ring.{Place, Ring}
 
@@ -47,21 +47,6 @@ numbersFor p =
 unfoldable pub placesFrom : (n : ℕ) → List ℕ → (at : ℕ) → List Place
 placesFrom zero m at = []
 placesFrom (suc n) m at = placeFrom m at ∷ placesFrom n m (at + placeSize)
-
--- the limits at the memory's begin, and as numbers
-unfoldable pub limitsFrom : List ℕ → Limits
-limitsFrom m =
-    record {
-      accel = record { x = getD m 0 0; y = getD m 1 0; z = getD m 2 0 };
-      speed = record { x = getD m 3 0; y = getD m 4 0; z = getD m 5 0 };
-      jump = getD m 6 0;
-      chord = getD m 7 0;
-      tick = getD m 8 0;
-    }
-
-abbrev pub limitNumbers : Limits → List ℕ → List ℕ
-limitNumbers l rest =
-    l .accel .x ∷ l .accel .y ∷ l .accel .z ∷ l .speed .x ∷ l .speed .y ∷ l .speed .z ∷ l .jump ∷ l .chord ∷ l .tick ∷ rest
 
 -- the ring in the memory
 unfoldable pub viewOf : List ℕ → Ring

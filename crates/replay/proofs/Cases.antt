@@ -4,6 +4,7 @@ use mathlib.Core.List.{List, [], _∷_, _++_}
 use Prim.Native.Nat.{ℕ}
 use lib.IntN.{pos, negsuc}
 use lib.ListN.{replicate}
+use Rattle.machine.specs.Lists.{limitsFrom}
 use Rattle.fields.specs.Layouts.{joined, split}
 use Rattle.fields.specs.Bytes.{numberOf}
 use Rattle.fields.specs.Fields.{fieldOf}
@@ -34,15 +35,15 @@ calls-read = refl
 
 -- accepted with 30 and 65 numbers lent, 11 with others, 9 with a byte too many before 11, 9 with no limits, 1 with limits of 0
 accepted : replayRefusal (machine ++ added ++ taken) 30 65 ≡ 0
-unfolding machine added taken replayRefusal traceRefusal limitsFault zeroBits limitsAt limitsRefusal limitsWithin split numberOf joined
+unfolding machine added taken replayRefusal traceRefusal limitsFault zeroBits limitsAt limitsFrom limitsRefusal limitsWithin split numberOf joined
 accepted = refl
 
 short-answers : replayRefusal (machine ++ added ++ taken) 29 65 ≡ 11
-unfolding machine added taken replayRefusal traceRefusal limitsFault zeroBits limitsAt limitsRefusal limitsWithin split numberOf joined
+unfolding machine added taken replayRefusal traceRefusal limitsFault zeroBits limitsAt limitsFrom limitsRefusal limitsWithin split numberOf joined
 short-answers = refl
 
 long-plan : replayRefusal (machine ++ added ++ taken) 30 66 ≡ 11
-unfolding machine added taken replayRefusal traceRefusal limitsFault zeroBits limitsAt limitsRefusal limitsWithin split numberOf joined
+unfolding machine added taken replayRefusal traceRefusal limitsFault zeroBits limitsAt limitsFrom limitsRefusal limitsWithin split numberOf joined
 long-plan = refl
 
 ragged : replayRefusal (machine ++ added ++ 0 ∷ []) 30 66 ≡ 9
@@ -54,7 +55,7 @@ unfolding replayRefusal traceRefusal
 no-limits = refl
 
 zero-limits : replayRefusal (replicate 24 0) 1 1 ≡ 1
-unfolding replayRefusal traceRefusal limitsFault zeroBits limitsAt limitsRefusal limitsWithin split numberOf joined
+unfolding replayRefusal traceRefusal limitsFault zeroBits limitsAt limitsFrom limitsRefusal limitsWithin split numberOf joined
 zero-limits = refl
 
 -- a refusal's row

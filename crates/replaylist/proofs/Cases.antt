@@ -4,6 +4,7 @@ use mathlib.Core.List.{List, [], _∷_, _++_}
 use Prim.Native.Nat.{ℕ}
 use lib.IntN.{pos}
 use lib.ListN.{replicate}
+use Rattle.machine.specs.Lists.{limitsFrom}
 use Rattle.fields.specs.Layouts.{joined, split}
 use Rattle.fields.specs.Bytes.{numberOf}
 use Rattle.fields.specs.Fields.{fieldOf}
@@ -52,11 +53,11 @@ unfolding replayText limitsReadRefusal line spaced decimal digitsOf refusedWords
 no-limits = refl
 
 zero-limits : replayText (replicate 24 0) ≡ 114 ∷ 101 ∷ 102 ∷ 117 ∷ 115 ∷ 101 ∷ 100 ∷ 32 ∷ 49 ∷ 32 ∷ 97 ∷ 116 ∷ 32 ∷ 48 ∷ 10 ∷ []
-unfolding replayText limitsReadRefusal limitsFault zeroBits limitsAt limitsRefusal limitsWithin split numberOf joined line spaced decimal digitsOf refusedWords
+unfolding replayText limitsReadRefusal limitsFault zeroBits limitsAt limitsFrom limitsRefusal limitsWithin split numberOf joined line spaced decimal digitsOf refusedWords
 zero-limits = refl
 
 -- a take, and one byte more: `refused 8`, `refused 9 at 2`, `held 0`, `plan 0`
 cut : replayText (machine ++ replicate 29 0)
     ≡ 114 ∷ 101 ∷ 102 ∷ 117 ∷ 115 ∷ 101 ∷ 100 ∷ 32 ∷ 56 ∷ 10 ∷ 114 ∷ 101 ∷ 102 ∷ 117 ∷ 115 ∷ 101 ∷ 100 ∷ 32 ∷ 57 ∷ 32 ∷ 97 ∷ 116 ∷ 32 ∷ 50 ∷ 10 ∷ 104 ∷ 101 ∷ 108 ∷ 100 ∷ 32 ∷ 48 ∷ 10 ∷ 112 ∷ 108 ∷ 97 ∷ 110 ∷ 32 ∷ 48 ∷ 10 ∷ []
-unfolding machine replayText limitsReadRefusal limitsFault zeroBits limitsAt limitsRefusal limitsWithin split numberOf joined callsFrom callOf fieldOf answersText answerText lineAnswers lineAnswer lineAfterAll lineAfter stepsOf planOf startLimit forward line spaced decimal digitsOf refusedWords
+unfolding machine replayText limitsReadRefusal limitsFault zeroBits limitsAt limitsFrom limitsRefusal limitsWithin split numberOf joined callsFrom callOf fieldOf answersText answerText lineAnswers lineAnswer lineAfterAll lineAfter stepsOf planOf startLimit forward line spaced decimal digitsOf refusedWords
 cut = refl

@@ -4,6 +4,7 @@ use Prim.Native.Nat.{ℕ}
 use mathlib.Core.List.{List, [], _∷_, _++_}
 use lib.IntN.{pos, negsuc}
 use lib.ListN.{replicate}
+use Rattle.machine.specs.Lists.{limitsFrom}
 use Rattle.fields.specs.Layouts.{joined, split}
 use Rattle.fields.specs.Bytes.{numberOf, bytesOf, withBytes}
 use Rattle.fields.specs.Signed.{signedOf, bitsOf}
@@ -33,7 +34,7 @@ limits-read : readLimits machine ≡ given record {
   chord = 1;
   tick = 2000;
 }
-unfolding machine readLimits limitsReadRefusal limitsFault zeroBits limitsAt limitsRefusal limitsWithin split numberOf joined
+unfolding machine readLimits limitsReadRefusal limitsFault zeroBits limitsAt limitsFrom limitsRefusal limitsWithin split numberOf joined
 limits-read = refl
 
 record-read : readRecord (eight ++ seven) ≡ given record { x = pos 0; y = negsuc 999; z = pos 0; feed = 20000; radius = 1000; mark = 8 }
@@ -46,11 +47,11 @@ still = refl
 
 -- two blocks; the second at fault, by 3 before 4; a byte too many
 taken : checkTape (machine ++ seven ++ eight) ≡ given 2
-unfolding machine seven eight checkTape tapeFault headRefusal limitsFault zeroBits limitsAt limitsRefusal limitsWithin faultFrom tapeBlocks blocksFrom blockAt blockRefusal greatestMove signedOf split numberOf joined
+unfolding machine seven eight checkTape tapeFault headRefusal limitsFault zeroBits limitsAt limitsFrom limitsRefusal limitsWithin faultFrom tapeBlocks blocksFrom blockAt blockRefusal greatestMove signedOf split numberOf joined
 taken = refl
 
 second : checkTape (machine ++ seven ++ far) ≡ refused (3 at 2)
-unfolding machine seven far checkTape tapeFault headRefusal limitsFault zeroBits limitsAt limitsRefusal limitsWithin faultFrom tapeBlocks blocksFrom blockAt blockRefusal greatestMove signedOf split numberOf joined
+unfolding machine seven far checkTape tapeFault headRefusal limitsFault zeroBits limitsAt limitsFrom limitsRefusal limitsWithin faultFrom tapeBlocks blocksFrom blockAt blockRefusal greatestMove signedOf split numberOf joined
 second = refl
 
 ragged : checkTape (machine ++ seven ++ 0 ∷ []) ≡ refused (9 at 0)

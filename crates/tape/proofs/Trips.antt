@@ -11,10 +11,11 @@ use Rattle.fields.specs.Layouts.{split}
 use Rattle.fields.specs.Bytes.{Bytes}
 use Rattle.fields.specs.Signed.{signedOf, bitsOf}
 use Rattle.fields.proofs.Signed.{signed-bits, bits-signed}
+use Rattle.machine.specs.Lists.{limitsFrom}
 use Rattle.machine.specs.Checks.{pick, limitsRefusal, blockRefusal}
 use Rattle.machine.specs.declared.Limits.{Limits}
 use Rattle.machine.specs.declared.Block.{Block}
-use Rattle.tape.specs.Tape.{limitsBytes, limitsLayout, limitsFields, limitsFrom, limitsNumber, limitsAt, zeroBits, recordBytes, moveBits, recordLayout, blockFields, blockFrom, blockNumber, blockAt}
+use Rattle.tape.specs.Tape.{limitsBytes, limitsLayout, limitsFields, limitsNumber, limitsAt, zeroBits, recordBytes, moveBits, recordLayout, blockFields, blockFrom, blockNumber, blockAt}
 use Rattle.tape.specs.Display.{given, limitsFault, limitsReadRefusal, readLimits, recordReadRefusal, readRecord, limitsWriteRefusal, limitsWritten, recordWriteRefusal, recordWritten}
 use Rattle.tape.proofs.Checks.{no-fault}
 use Rattle.tape.proofs.Fits.{block-fits, moves-fit, limits-fit}
@@ -100,7 +101,7 @@ record-later = later record-form
 
 -- The limits: they are whole in their fields where the zero bits are 0.
 limits-whole : (m : ℕ) → getD (split limitsLayout m) 9 0 ≡ 0 → limitsFields (limitsFrom (split limitsLayout m)) ≡ split limitsLayout m
-unfolding split
+unfolding split limitsFrom
 limits-whole m z =
     λ i.
     m / 2 ^ 167 % 2 ^ 25 ∷ m / 2 ^ 142 % 2 ^ 25 ∷ m / 2 ^ 117 % 2 ^ 25 ∷ m / 2 ^ 97 % 2 ^ 20 ∷ m / 2 ^ 77 % 2 ^ 20 ∷ m / 2 ^ 57 % 2 ^ 20
@@ -118,6 +119,7 @@ limits-form =
     }
 
 limits-lossless : Lossless limits-form
+unfolding limitsFrom
 limits-lossless =
     record {
       width = refl;

@@ -5,6 +5,7 @@ use lib.ListN.{length, take, drop, getD}
 use Rattle.fields.specs.Layouts.{joined, split}
 use Rattle.fields.specs.Bytes.{numberOf}
 use Rattle.fields.specs.Signed.{signedOf, bitsOf}
+use Rattle.machine.specs.Lists.{limitNumbers, limitsFrom}
 use Rattle.machine.specs.declared.Limits.{Limits}
 use Rattle.machine.specs.declared.Block.{Block}
 
@@ -17,19 +18,7 @@ limitsLayout = 25 ∷ 25 ∷ 25 ∷ 20 ∷ 20 ∷ 20 ∷ 20 ∷ 10 ∷ 14 ∷ 13
 
 -- the values of these fields, of limits, with the zero bits 0
 abbrev pub limitsFields : Limits → List ℕ
-limitsFields l =
-    l .accel .x ∷ l .accel .y ∷ l .accel .z ∷ l .speed .x ∷ l .speed .y ∷ l .speed .z ∷ l .jump ∷ l .chord ∷ l .tick ∷ 0 ∷ []
-
--- the limits that the values of these fields say
-abbrev pub limitsFrom : List ℕ → Limits
-limitsFrom vs =
-    record {
-      accel = record { x = getD vs 0 0; y = getD vs 1 0; z = getD vs 2 0 };
-      speed = record { x = getD vs 3 0; y = getD vs 4 0; z = getD vs 5 0 };
-      jump = getD vs 6 0;
-      chord = getD vs 7 0;
-      tick = getD vs 8 0;
-    }
+limitsFields l = limitNumbers l (0 ∷ [])
 
 -- limits as the number that their 24 bytes write
 unfoldable pub limitsNumber : Limits → ℕ

@@ -1,7 +1,7 @@
 -- `fullerecru::numbers::limits_of`: each limit as it stands. Assumes nothing.
 use mathlib.Core.Path.{refl}
 use borrow.Author.Needs.{needs}
-use Rattle.planner.specs.View.{limitsFrom}
+use Rattle.machine.specs.Lists.{limitsFrom}
 use Rattle.fullerecru.proofs.numbers.limits_of.Statement.{statement}
 use Rattle.fullerecru.proofs.numbers.limits_of.Tie as tie
 

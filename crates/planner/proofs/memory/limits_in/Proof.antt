@@ -1,7 +1,7 @@
 -- `planner::memory::limits_in`: each limit, cut. Assumes nothing.
 use mathlib.Core.Path.{refl}
 use borrow.Author.Needs.{needs}
-use Rattle.planner.specs.View.{limitsFrom}
+use Rattle.machine.specs.Lists.{limitsFrom}
 use Rattle.planner.proofs.memory.limits_in.Statement.{statement}
 use Rattle.planner.proofs.memory.limits_in.Tie as tie
 

@@ -3,7 +3,8 @@ use mathlib.Core.List.{[], _∷_}
 use mathlib.Core.Path.{sym, ap, _∙_}
 use borrow.Author.Needs.{needs}
 use Rattle.machine.specs.Checks.{refusalNumber, checkedNumber}
-use Rattle.planner.specs.View.{limitNumbers, viewOf}
+use Rattle.machine.specs.Lists.{limitNumbers}
+use Rattle.planner.specs.View.{viewOf}
 use Rattle.planner.proofs.View.{view-fresh}
 use Rattle.machine.proofs.AnswerLaws.{refusal-above}
 use Rattle.planner.proofs.Outcomes.{fresh-refused, fresh-made}

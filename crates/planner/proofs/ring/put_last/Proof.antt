@@ -9,7 +9,8 @@ use Rattle.machine.specs.Checks.{movesOf}
 use Rattle.machine.specs.Numbers.{AxesBelow, lengthFrom, numbersOf}
 use Rattle.machine.specs.declared.Block.{Block}
 use Rattle.line.specs.Ring.{placeOf}
-use Rattle.planner.specs.View.{memorySize, numbersFor, limitsFrom, viewOf}
+use Rattle.machine.specs.Lists.{limitsFrom}
+use Rattle.planner.specs.View.{memorySize, numbersFor, viewOf}
 use Rattle.planner.proofs.Steps.{limits-below, still-sized, put-is}
 use Rattle.planner.proofs.ring.put_last.Statement.{statement}
 use Rattle.planner.proofs.ring.put_last.Tie as tie

@@ -1,5 +1,6 @@
 -- `tape::limits::decode_limits` meets its contract, from `limits-field`. Assumes nothing.
 use mathlib.Core.Path.{_∙_}
+use Rattle.machine.specs.Lists.{limitsFrom}
 use Rattle.tape.specs.Tape.{limitsAt}
 use Rattle.tape.proofs.Words.{limits-field}
 use borrow.Author.Needs.{needs}
@@ -34,7 +35,7 @@ read-field-requires-9 : tie.Need-read-field-requires-9
 read-field-requires-9 c κs = search needs
 
 returns : tie.Need-returns
-unfolding limitsAt
+unfolding limitsAt limitsFrom
 returns c =
     let accel = c .before .before .before .before .before .before in
     let speed = c .before .before .before in
