@@ -1,11 +1,11 @@
 // The calls of a planner on the numbers of its memory. A pass over the blocks held is one loop, and
 // a take has none.
 ghost use mathlib.Core.Path.{_≡_};
-ghost use Prim.Native.Nat.{_+_, _^_, _-_, _≤_, _<_};
+ghost use Prim.Native.Nat.{_+_, _^_, _-_, _<_};
 ghost use lib.Dec.{eqb};
 ghost use lib.ListN.{length};
 ghost use Rattle.machine.specs.Checks.{blockRefusal, checkedNumber, movesOf, pick};
-ghost use Rattle.machine.specs.Numbers.{AxesBelow, LimitsBelow};
+ghost use Rattle.machine.specs.Numbers.{AxesBelow};
 ghost use Rattle.line.specs.Answers.{addMeans, showMeans, takeMeans};
 ghost use Rattle.line.specs.Blocks.{add, take};
 ghost use Rattle.line.specs.Ring.{junctionAfter, placeAt, putLast, speedsFrom, walkBack};

@@ -9,7 +9,6 @@ ghost use lib.ListN.{length};
 ghost use Rattle.replaylist.specs.Texts.{cutPlace};
 ghost use Rattle.replaylist.specs.Turns.{chunkBytes};
 ghost use Rattle.planreplay.specs.Places.{endCalls};
-use libc::STDERR_FILENO;
 use libc::STDIN_FILENO;
 use libc::STDOUT_FILENO;
 use listing::Put;
@@ -19,6 +18,8 @@ use machine::check::refusal_number;
 use planner::NUMBERS;
 use replay::CALL_BYTES;
 use replaylist::TEXT;
+use streams::has_ended;
+use streams::say_error;
 use tape::LIMITS_BYTES;
 use tape::LimitsRead;
 
@@ -39,6 +40,8 @@ enum Ended {
     At(u64),
     // standard output did not take the lines
     Unwritten,
+    // standard input could not be read to its end
+    Unread,
 }
 
 // Writes the first n bytes of a text. Returns whether all were taken.
@@ -46,14 +49,6 @@ fn say(n: usize, text: &[u8]) -> bool
     requires { ⌜ n ≤ length (now text) ⌝ }
 {
     io::write_all(STDOUT_FILENO, &text[..n])
-}
-
-// Says that not all lines were written.
-fn say_failed() {
-    io::write_all(
-        STDERR_FILENO,
-        b"planreplay: standard output did not take all lines\n",
-    );
 }
 
 // Writes the line of a refusal with its place. Returns whether it was taken.
@@ -106,11 +101,24 @@ fn run_calls(memory: &mut [u64; NUMBERS], text: &mut [u8; TEXT]) -> Ended {
             return Ended::Unwritten;
         }
         if turn.got < CHUNK {
+            if !has_ended() {
+                return Ended::Unread;
+            }
             return Ended::At(cut_at(calls, turn.got));
         }
         calls += replaylist::CALLS as u64;
     }
     Ended::At(0)
+}
+
+// Says that standard output did not take a text.
+fn say_unwritten() {
+    say_error(b"planreplay: standard output did not take all lines\n");
+}
+
+// Says that standard input was not read to its end.
+fn say_unread() {
+    say_error(b"planreplay: standard input could not be read to its end\n");
 }
 
 // Writes the line of a call that the input ends inside, where there is one, and the closing lines.
@@ -125,21 +133,33 @@ fn finish(place: u64, memory: &[u64; NUMBERS], text: &mut [u8; TEXT]) -> bool {
     say(end, text)
 }
 
-// Runs the calls behind the limits, and closes. Returns whether all lines were taken.
-fn replay(l: Limits, text: &mut [u8; TEXT]) -> bool {
+// Runs the calls behind the limits, and closes.
+fn replay(l: Limits, text: &mut [u8; TEXT]) {
     let mut memory = [0u64; NUMBERS];
     planner::fresh(&mut memory, l);
     match run_calls(&mut memory, text) {
-        Ended::At(place) => finish(place, &memory, text),
-        Ended::Unwritten => false,
+        Ended::At(place) => {
+            if !finish(place, &memory, text) {
+                say_unwritten();
+            }
+        }
+        Ended::Unwritten => say_unwritten(),
+        Ended::Unread => say_unread(),
     }
 }
 
-// What the bytes of the limits say decides. Returns whether all lines were taken.
-fn start(head: &[u8], text: &mut [u8; TEXT]) -> bool {
+// Writes the one line of limits that are refused.
+fn refuse(number: u64, text: &mut [u8; TEXT]) {
+    if !say_refused(number, 0, text) {
+        say_unwritten();
+    }
+}
+
+// What the bytes of the limits say decides.
+fn start(head: &[u8], text: &mut [u8; TEXT]) {
     match tape::limits::read_limits(head) {
         LimitsRead::Read(l) => replay(l, text),
-        LimitsRead::Refused(why) => say_refused(refusal_number(why), 0, text),
+        LimitsRead::Refused(why) => refuse(refusal_number(why), text),
     }
 }
 
@@ -147,7 +167,11 @@ fn main() {
     let mut text = io::large_buffer();
     let mut head = [0u8; LIMITS_BYTES];
     let got = io::read_full(STDIN_FILENO, &mut head);
-    if !start(&head[..got], &mut text) {
-        say_failed();
+    if got < LIMITS_BYTES {
+        if !has_ended() {
+            say_unread();
+            return;
+        }
     }
+    start(&head[..got], &mut text);
 }

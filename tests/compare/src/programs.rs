@@ -113,6 +113,17 @@ pub fn complaint(program: &PathBuf, input: &[u8], output: Stdio) -> String {
     text
 }
 
+/// What the program writes to standard output and to standard error when it
+/// reads from the input.
+pub fn both_texts(program: &PathBuf, input: Stdio) -> (String, String) {
+    let output = Command::new(program)
+        .stdin(input)
+        .output()
+        .unwrap_or_else(|error| panic!("{}: {error}", program.display()));
+    let text = |bytes| String::from_utf8(bytes).expect("text");
+    (text(output.stdout), text(output.stderr))
+}
+
 /// What the program writes for an input.
 pub fn run(program: &PathBuf, input: &[u8]) -> String {
     run_in_pieces(program, input, usize::MAX)
