@@ -9,7 +9,7 @@ TAPE = examples/tapes/mould-row.tape
 
 run:
 	rt check planlist
-	@target/bin/planlist < $(TAPE)
+	@target/bin/planlist < "$(TAPE)"
 
 # make bench: time and instructions of the proved code beside the independent implementation.
 bench:

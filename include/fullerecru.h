@@ -1,9 +1,9 @@
 /* Fullerecru: a proved look-ahead speed planner for three-axis milling tables.
  *
- * Link with libfullerecru.a (made by `rt staticlib fullerecru`). The library allocates nothing
- * and keeps nothing between calls: all that it works on is lent by the caller. Of the C library
- * it calls memset alone. A call needs under 1 kB of stack, fullerecru_replay under 8 kB and
- * fullerecru_plan_tape under 34 kB.
+ * Link with libfullerecru.a, for x86-64 Linux (ELF, System V calls); `rt staticlib fullerecru` makes
+ * it. The library allocates nothing and keeps nothing between calls: all that it works on is lent
+ * by the caller. Of the C library it calls memset alone. A call needs under 1 kB of stack,
+ * fullerecru_replay under 8 kB and fullerecru_plan_tape under 34 kB.
  *
  * Units: lengths in µm, speeds in µm/s, squared speeds in (µm/s)², accelerations in µm/s², the
  * tick in microseconds. Every quantity is a whole number.
@@ -106,6 +106,10 @@ uint64_t fullerecru_fresh(uint64_t memory[FULLERECRU_NUMBERS],
  * of the curve that the block is a chord of: 0 to 10,000,000 µm, 0 for no curve. mark: a label of
  * the caller's, 0 to 2,097,151.
  *
+ * The corner between two blocks is judged by their lengths in whole µm, rounded down. Between moves
+ * of a few µm the step of the real velocity may pass the corner jump, and a turn may have no cap:
+ * (1,1,1) then (1,1,-1) has none.
+ *
  * Refuses by 2, 3, 4, 5, 6, 7 in that order. Accepted, it writes the memory. */
 uint64_t fullerecru_add(uint64_t memory[FULLERECRU_NUMBERS], int64_t x, int64_t y, int64_t z,
                         uint64_t feed, uint64_t radius, uint64_t mark);
@@ -115,7 +119,9 @@ uint64_t fullerecru_add(uint64_t memory[FULLERECRU_NUMBERS], int64_t x, int64_t 
  *
  * moves: X, Y, Z, µm. numbers: feed, µm/s; radius, µm; mark; length, µm; acceleration, µm/s²;
  * entry, exit and peak, squared speeds, (µm/s)²; and the ramp: the lengths run speeding up, at
- * the peak and braking, µm, which add up to the length.
+ * the peak and braking, µm, which add up to the length. The length, and the lengths of speeding up
+ * and of braking, are rounded down to whole µm: the part at the peak may hold almost 2 µm of the two
+ * ramps. A servo loop interpolates from entry, peak, exit and acceleration.
  *
  * Refuses by 8. Accepted, it writes the memory, moves and numbers. */
 uint64_t fullerecru_take(uint64_t memory[FULLERECRU_NUMBERS], int64_t moves[FULLERECRU_MOVES],
@@ -130,7 +136,10 @@ uint64_t fullerecru_told(const uint64_t memory[FULLERECRU_NUMBERS]);
  * Refuses by 11. Accepted, it writes the count numbers of list; the planner stays as it is. */
 uint64_t fullerecru_shown(const uint64_t memory[FULLERECRU_NUMBERS], uint64_t *list, size_t count);
 
-/* The tape: 24 bytes of limits, then 16 bytes for each block. */
+/* The tape: 24 bytes of limits, then 16 bytes for each block. Fields are packed without gaps, most
+ * significant bit first. Limits: acceleration X, Y, Z (25 bits each), speed X, Y, Z (20 each), corner
+ * jump (20), chord tolerance (10), tick (14), 13 zero bits. Record: move X, Y, Z in two's complement
+ * (21 each), feed (20), radius (24), mark (21). */
 
 /* Reads limits, in the order of fullerecru_fresh, from the first 24 bytes; later bytes play no
  * part.
