@@ -1,15 +1,20 @@
 // Lists the tape of standard input: document 01's listing, or the one line of its refusal. Where the input cannot be read to
 // its end, or the output does not take the whole text, a line on standard error says so.
-use libc::STDIN_FILENO;
+use libc::STDERR_FILENO;
 use libc::STDOUT_FILENO;
-use streams::has_ended;
-use streams::say_error;
+use streams::Input;
+use streams::read_input;
 use tape::MOST_BYTES;
 use tapelist::TEXT;
 use tapelist::list_tape;
 
 // One byte more than the longest tape: a longer input is refused by 10 whatever follows, so no more of it is read.
 const INPUT: usize = MOST_BYTES + 1;
+
+// Writes a line to standard error.
+fn say_error(line: &[u8]) {
+    io::write_all(STDERR_FILENO, line);
+}
 
 // Writes the listing of a tape.
 fn list(tape: &[u8]) {
@@ -22,12 +27,8 @@ fn list(tape: &[u8]) {
 
 fn main() {
     let mut input = [0u8; INPUT];
-    let got = io::read_full(STDIN_FILENO, &mut input);
-    if got < INPUT {
-        if !has_ended() {
-            say_error(b"planlist: standard input could not be read to its end\n");
-            return;
-        }
+    match read_input(&mut input) {
+        Input::Bytes(got) => list(&input[..got]),
+        Input::Failed => say_error(b"planlist: standard input could not be read to its end\n"),
     }
-    list(&input[..got]);
 }

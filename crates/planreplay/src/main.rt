@@ -8,8 +8,8 @@ ghost use Prim.Native.Nat.{_≤_, _<_};
 ghost use lib.ListN.{length};
 ghost use Rattle.replaylist.specs.Texts.{cutPlace};
 ghost use Rattle.replaylist.specs.Turns.{chunkBytes};
-ghost use Rattle.planreplay.specs.Places.{endCalls};
-use libc::STDIN_FILENO;
+ghost use Rattle.planreplay.specs.Places.{endCalls, turnBytes};
+use libc::STDERR_FILENO;
 use libc::STDOUT_FILENO;
 use listing::Put;
 use machine::Limits;
@@ -18,8 +18,8 @@ use machine::check::refusal_number;
 use planner::NUMBERS;
 use replay::CALL_BYTES;
 use replaylist::TEXT;
-use streams::has_ended;
-use streams::say_error;
+use streams::Input;
+use streams::read_input;
 use tape::LIMITS_BYTES;
 use tape::LimitsRead;
 
@@ -28,10 +28,14 @@ const CHUNK: usize = CALL_BYTES * replaylist::CALLS;
 // Reading ends at this many calls, which no input has.
 const MOST_CALLS: u64 = 18_446_744_073_709_551_000;
 
-// A chunk that was run: how many bytes were read, and whether its lines were written.
-struct Turn {
-    got: usize,
-    written: bool,
+// A chunk that was read and run.
+enum Turn {
+    // how many bytes were read, and the lines of their calls were written
+    Ran(usize),
+    // standard output did not take the lines
+    Unwritten,
+    // standard input could not be read to its end
+    Unread,
 }
 
 // How running all calls ended.
@@ -61,20 +65,23 @@ fn say_refused(number: u64, place: u64, text: &mut [u8]) -> bool {
 
 // Reads a chunk, runs its calls and writes their lines.
 fn run_next(chunk: &mut [u8], memory: &mut [u64; NUMBERS], text: &mut [u8; TEXT]) -> Turn
-    ensures { λ r. ⌜ r .got ≤ length (now (chunk .entry)) ⌝ }
+    ensures { λ r. ⌜ turnBytes r ≤ length (now (chunk .entry)) ⌝ }
 {
-    let got = io::read_full(STDIN_FILENO, chunk);
-    let end = replaylist::run_chunk(&chunk[..got], memory, text);
-    let written = say(end, text);
-    Turn {
-        got: got,
-        written: written,
+    match read_input(chunk) {
+        Input::Failed => Turn::Unread,
+        Input::Bytes(got) => {
+            let end = replaylist::run_chunk(&chunk[..got], memory, text);
+            if !say(end, text) {
+                return Turn::Unwritten;
+            }
+            Turn::Ran(got)
+        }
     }
 }
 
 // The same with a chunk of 300 calls.
 fn run_chunk(chunk: &mut [u8; CHUNK], memory: &mut [u64; NUMBERS], text: &mut [u8; TEXT]) -> Turn
-    ensures { λ r. ⌜ r .got ≤ chunkBytes ⌝ }
+    ensures { λ r. ⌜ turnBytes r ≤ chunkBytes ⌝ }
 {
     run_next(chunk, memory, text)
 }
@@ -91,20 +98,19 @@ fn cut_at(calls: u64, bytes: usize) -> u64
     calls + (bytes / CALL_BYTES) as u64 + 1
 }
 
-// Runs all calls of the input, as long as their lines are taken.
+// Runs all calls of the input, as long as it can be read and their lines are taken.
 fn run_calls(memory: &mut [u64; NUMBERS], text: &mut [u8; TEXT]) -> Ended {
     let mut chunk = [0u8; CHUNK];
     let mut calls: u64 = 0;
     while calls < MOST_CALLS {
-        let turn = run_chunk(&mut chunk, memory, text);
-        if !turn.written {
-            return Ended::Unwritten;
-        }
-        if turn.got < CHUNK {
-            if !has_ended() {
-                return Ended::Unread;
+        match run_chunk(&mut chunk, memory, text) {
+            Turn::Unwritten => return Ended::Unwritten,
+            Turn::Unread => return Ended::Unread,
+            Turn::Ran(got) => {
+                if got < CHUNK {
+                    return Ended::At(cut_at(calls, got));
+                }
             }
-            return Ended::At(cut_at(calls, turn.got));
         }
         calls += replaylist::CALLS as u64;
     }
@@ -113,12 +119,18 @@ fn run_calls(memory: &mut [u64; NUMBERS], text: &mut [u8; TEXT]) -> Ended {
 
 // Says that standard output did not take a text.
 fn say_unwritten() {
-    say_error(b"planreplay: standard output did not take all lines\n");
+    io::write_all(
+        STDERR_FILENO,
+        b"planreplay: standard output did not take all lines\n",
+    );
 }
 
 // Says that standard input was not read to its end.
 fn say_unread() {
-    say_error(b"planreplay: standard input could not be read to its end\n");
+    io::write_all(
+        STDERR_FILENO,
+        b"planreplay: standard input could not be read to its end\n",
+    );
 }
 
 // Writes the line of a call that the input ends inside, where there is one, and the closing lines.
@@ -166,12 +178,8 @@ fn start(head: &[u8], text: &mut [u8; TEXT]) {
 fn main() {
     let mut text = io::large_buffer();
     let mut head = [0u8; LIMITS_BYTES];
-    let got = io::read_full(STDIN_FILENO, &mut head);
-    if got < LIMITS_BYTES {
-        if !has_ended() {
-            say_unread();
-            return;
-        }
+    match read_input(&mut head) {
+        Input::Bytes(got) => start(&head[..got], &mut text),
+        Input::Failed => say_unread(),
     }
-    start(&head[..got], &mut text);
 }

@@ -1,6 +1,8 @@
 -- `planreplay::run_calls` is safe and ends: the calls that are left to the last number fall.
+use mathlib.Core.Path.{ap}
 use Prim.Native.Nat.{_-_}
-use Rattle.planreplay.specs.Places.{endCalls}
+use native.Mathlib.Omega.{arith}
+use Rattle.planreplay.specs.Places.{endCalls, turnBytes}
 use borrow.Author.Needs.{needs}
 use Rattle.planreplay.proofs.run_calls.Statement.{statement}
 use Rattle.planreplay.proofs.run_calls.Tie as tie
@@ -17,17 +19,26 @@ loop-holds c = tt
 run-chunk-requires : tie.Need-run-chunk-requires Inv-loop μ-loop
 run-chunk-requires c κs = search needs
 
+enum-told : tie.Need-enum-told Inv-loop μ-loop
+enum-told c = search needs
+
 returns : tie.Need-returns Inv-loop μ-loop
 returns c = tt
 
-has-ended-requires : tie.Need-has-ended-requires Inv-loop μ-loop
-has-ended-requires c κs = search needs
+enum-told-2 : tie.Need-enum-told-2 Inv-loop μ-loop
+enum-told-2 c = search needs
 
 returns-2 : tie.Need-returns-2 Inv-loop μ-loop
 returns-2 c = tt
 
+enum-known-got : tie.Need-enum-known-got Inv-loop μ-loop
+enum-known-got c = search needs
+
 cut-at-requires : tie.Need-cut-at-requires Inv-loop μ-loop
-cut-at-requires c κs = search needs
+cut-at-requires c κs =
+    let got = c .before .before in
+    let run = got .before .before in
+    (run .before .before .before .before .loop-test .taken, omega (arith, ap turnBytes (got .got .given .1), run .run-chunk .ensures))
 
 returns-3 : tie.Need-returns-3 Inv-loop μ-loop
 returns-3 c = tt
@@ -52,9 +63,11 @@ run-calls-spec =
     μ-loop
     loop-holds
     run-chunk-requires
+    enum-told
     returns
-    has-ended-requires
+    enum-told-2
     returns-2
+    enum-known-got
     cut-at-requires
     returns-3
     add-calls

@@ -1,0 +1,2 @@
+-- The laws of what was read.
+pub mod Within
