@@ -4,7 +4,7 @@ use Prim.Native.Nat.{ℕ, _+_, _*_, _≤_}
 use lib.ListN.{length}
 use Rattle.line.specs.declared.Given.{Given}
 use Rattle.listing.specs.Text.{row}
-use Rattle.listing.specs.Store.{Answered}
+use Rattle.listing.specs.Store.{Answered, Stored}
 use Rattle.listing.specs.declared.Put.{Put}
 
 -- the nine numbers of the header, in its order: squared speeds in (µm/s)², lengths in µm, the acceleration in µm/s²
@@ -38,3 +38,8 @@ pub record PutRow (s : List ℕ) (at : ℕ) (numbers : List ℕ) (answer : Put) 
 pub record PutGiven (s : List ℕ) (at : ℕ) (g : Given) (answer : Put) (after : List ℕ) : Type 0 where
   pub answered : Answered s at (givenText g) answer after
   pub short : length (givenText g) ≤ mostGiven
+
+-- a line that had room, stored from place `at` on
+pub record WroteLine (line text : List ℕ) (at end : ℕ) (text′ : List ℕ) : Type 0 where
+  pub few : end ≤ at + mostGiven
+  pub stored : Stored text at line end text′

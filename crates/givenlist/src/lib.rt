@@ -1,7 +1,10 @@
 // The line of a listing for a block given out: `mark length accel entry peak exit up cruise down`.
-ghost use Rattle.givenlist.specs.Given.{PutGiven, PutRow};
+ghost use Prim.Native.Nat.{_+_, _≤_};
+ghost use lib.ListN.{length};
+ghost use Rattle.givenlist.specs.Given.{PutGiven, PutRow, WroteLine, givenText, mostGiven};
 use line::Given;
 use listing::Put;
+use listing::behind;
 use listing::put_row;
 
 // Stores a row, and says how long it is at most: 21 bytes a number, and one.
@@ -29,4 +32,12 @@ pub fn put_given(out: &mut [u8], at: usize, g: Given) -> Put
         ramp.down,
     ];
     put_numbers(out, at, &numbers)
+}
+
+// Stores the line of a block given out, where there is room for the longest.
+pub fn store_given(out: &mut [u8], at: usize, g: Given) -> usize
+    requires { ⌜ at + mostGiven ≤ length (now out) ⌝ }
+    ensures { λ r. ⌜ WroteLine (givenText g) (now (out .entry)) at r (now (out .exit)) ⌝ }
+{
+    behind(put_given(out, at, g), at)
 }

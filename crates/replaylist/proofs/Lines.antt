@@ -11,14 +11,7 @@ use Rattle.listing.specs.Text as text
 use Rattle.listing.proofs.Store.{stored-with-room, stored-next, length-put}
 use Rattle.listing.proofs.Lines.{line-most}
 use Rattle.replaylist.specs.Chunks.{lineBytes, textBytes}
-use Rattle.replaylist.specs.Runs.{WroteLine, Ended}
-
--- A line that has room.
-pub wrote : {s line after : List ℕ} {at end : ℕ} {answer : Put} → length line ≤ lineBytes → at + lineBytes ≤ length s
-    → Answered s at line answer after → end ≡ placeBehind at answer → WroteLine line s at end after
-wrote few room r e =
-    let s = stored-with-room (omega arith) r e in
-    record { few = omega (arith, s .next); stored = s }
+use Rattle.replaylist.specs.Runs.{Ended}
 
 -- One number of 64 bits.
 below : (n : ℕ) → n < 2 ^ 64 → (i : ℕ) → getD (n ∷ []) i 0 < 2 ^ 64

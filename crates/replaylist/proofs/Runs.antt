@@ -22,9 +22,10 @@ use Rattle.replay.specs.Trace.{callBytes, callOf, callsFrom}
 use Rattle.replay.proofs.Runs.{calls-more}
 use Rattle.listing.specs.Store.{Stored}
 use Rattle.listing.proofs.Store.{stored-next, put-none}
+use Rattle.givenlist.specs.Given.{WroteLine}
 use Rattle.replaylist.specs.Chunks.{textBytes}
 use Rattle.replaylist.specs.Texts.{answerText, answersText, closingText}
-use Rattle.replaylist.specs.Runs.{WroteLine, CalledText, RanText, Ended, Closed}
+use Rattle.replaylist.specs.Runs.{CalledText, RanText, Ended, Closed}
 
 -- The text by the ring is the text by the line, where the ring holds the line: of calls,
 pub text-held : {r : Ring} {line : Line} (calls : List Call) → Holds r line → answersText (ringAnswers r calls) ≡ answersText (lineAnswers line calls)

@@ -14,11 +14,6 @@ use Rattle.listing.specs.Store.{Stored}
 use Rattle.replaylist.specs.Texts.{answerText, answersText, closingText}
 use Rattle.replaylist.specs.Chunks.{lineBytes, textBytes}
 
--- a call's line from place `at` on
-pub record WroteLine (line text : List ℕ) (at end : ℕ) (text′ : List ℕ) : Type 0 where
-  pub few : end ≤ at + lineBytes
-  pub stored : Stored text at line end text′
-
 -- one call, and its line from place `at` on
 pub record CalledText (call : Call) (memory memory′ text : List ℕ) (at end : ℕ) (text′ : List ℕ) : Type 0 where
   pub few : end ≤ at + lineBytes

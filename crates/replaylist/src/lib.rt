@@ -7,13 +7,13 @@ ghost use Rattle.line.specs.Answers as answers;
 ghost use Rattle.line.specs.Blocks as blocks;
 ghost use Rattle.line.specs.Blocks.{mostHeld};
 ghost use Rattle.planner.specs.Calls.{Told};
+ghost use Rattle.givenlist.specs.Given.{WroteLine};
 ghost use Rattle.replay.specs.Trace.{callBytes, callOf};
 ghost use Rattle.replaylist.specs.Chunks.{chunkCalls, chunkSize, lineBytes, textBytes};
 ghost use Rattle.replaylist.specs.Texts.{answerText};
-ghost use Rattle.replaylist.specs.Runs.{CalledText, Closed, Ended, RanText, WroteLine};
-use givenlist::put_given;
+ghost use Rattle.replaylist.specs.Runs.{CalledText, Closed, Ended, RanText};
+use givenlist::store_given;
 use line::AddAnswer;
-use line::Given;
 use line::TakeAnswer;
 use listing::behind;
 use machine::Block;
@@ -29,14 +29,6 @@ pub const CALLS: usize = 300;
 // Bytes of the list for the text: room for the lines of 300 calls, at most 190 bytes each. The
 // closing lines, stored from the first byte on as well, take fewer.
 pub const TEXT: usize = 65_536;
-
-// Stores the line of a block given out.
-fn write_given(g: Given, text: &mut [u8], at: usize) -> usize
-    requires { ⌜ at + lineBytes ≤ length (now text) ⌝ }
-    ensures { λ r. ⌜ WroteLine (answerText (answers.gave g)) (now (text .entry)) at r (now (text .exit)) ⌝ }
-{
-    behind(put_given(text, at, g), at)
-}
 
 // Stores the line of an add that was accepted.
 fn write_added(text: &mut [u8], at: usize) -> usize
@@ -71,7 +63,7 @@ fn take_call(memory: &mut [u64; NUMBERS], text: &mut [u8], at: usize) -> usize
     ensures { λ r. ⌜ CalledText blocks.take (now (memory .entry)) (now (memory .exit)) (now (text .entry)) at r (now (text .exit)) ⌝ }
 {
     match planner::take(memory) {
-        TakeAnswer::Given(g) => write_given(g, text, at),
+        TakeAnswer::Given(g) => store_given(text, at, g),
         TakeAnswer::Refused(why) => write_refused(refusal_number(why), text, at),
     }
 }

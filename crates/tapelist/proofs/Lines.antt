@@ -12,10 +12,10 @@ use Rattle.line.specs.Answers.{givenOf}
 use Rattle.line.specs.declared.Given.{Given}
 use Rattle.listing.specs.Store.{put, Stored}
 use Rattle.listing.proofs.Store.{put-none, put-next}
-use Rattle.givenlist.specs.Given.{givenText, mostGiven}
+use Rattle.givenlist.specs.Given.{givenText, mostGiven, WroteLine}
 use Rattle.tape.specs.Tape.{recordAt, recordsIn, tapeBlocks, tapeLimits}
 use Rattle.tape.proofs.Faults.{length-blocks, drop-blocks}
-use Rattle.tapelist.specs.Listing.{linesOf, StoredGiven}
+use Rattle.tapelist.specs.Listing.{linesOf}
 
 module _ (s plan : List ℕ) where
   -- the lines from block k on
@@ -44,14 +44,14 @@ module _ (s plan : List ℕ) where
 
   -- one line more
   pub storing-next : {text₀ text after : List ℕ} {at end next : ℕ} (k : ℕ) (g : Given) → Storing text₀ at text end k → k < recordsIn s → end ≤ length text
-      → g ≡ givenAt k → StoredGiven text end g next after → Storing text₀ at after next (k + 1)
+      → g ≡ givenAt k → WroteLine (givenText g) text end next after → Storing text₀ at after next (k + 1)
   storing-next {text₀} {text} {after} {at} {end} {next} k g v h room e r =
       let line : List ℕ = givenText g in
       let cons : linesFrom k ≡ line ++ linesFrom (k + 1) = lines-cons k h ∙ ap (λ (d : Given). givenText d ++ linesFrom (k + 1)) (sym e) in
       record {
         leads = rw (r .stored .bytes, r .stored .next) (put-next text end line (linesFrom (k + 1)) room ∙ ap (put text end) (sym cons)) ∙ v .leads;
         left = omega (arith, v .left, r .stored .next, ap length cons, length-append line (linesFrom (k + 1)));
-        room = omega (arith, v .room, r .stored .next, r .short);
+        room = omega (arith, v .room, r .few);
       }
 
   -- all of them

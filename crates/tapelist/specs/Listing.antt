@@ -1,17 +1,15 @@
 -- Document 01's listing of a whole tape, as bytes. Assumes nothing.
 use mathlib.Core.Path.{_≡_}
 use mathlib.Core.List.{List, [], _∷_, _++_}
-use Prim.Native.Nat.{ℕ, _≤_}
-use lib.ListN.{length, drop}
+use Prim.Native.Nat.{ℕ}
+use lib.ListN.{drop}
 use Rattle.profile.specs.Line.{numberAt}
 use Rattle.profile.specs.Passes.{planOf}
 use Rattle.machine.specs.declared.Block.{Block}
 use Rattle.machine.specs.declared.Limits.{Limits}
 use Rattle.line.specs.Answers.{givenOf}
-use Rattle.line.specs.declared.Given.{Given}
-use Rattle.listing.specs.Store.{Stored}
 use Rattle.listing.specs.Text.{header, refusedAt}
-use Rattle.givenlist.specs.Given.{givenText, mostGiven}
+use Rattle.givenlist.specs.Given.{givenText}
 use Rattle.tape.specs.Tape.{tapeBlocks, tapeLimits}
 use Rattle.tape.specs.Display.{byNumber, tapeRefusal, tapePlace}
 use Rattle.tapeplan.specs.Planned.{tapeSteps}
@@ -48,8 +46,3 @@ mostJunctions = 2049
 pub record Accepted (s plan : List ℕ) : Type 0 where
   pub passed : tapeRefusal s ≡ 0
   pub plan-is : plan ≡ tapePlan s
-
--- the line of a block given out, stored at a place
-pub record StoredGiven (text : List ℕ) (at : ℕ) (g : Given) (end : ℕ) (after : List ℕ) : Type 0 where
-  pub stored : Stored text at (givenText g) end after
-  pub short : length (givenText g) ≤ mostGiven

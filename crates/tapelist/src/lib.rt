@@ -1,7 +1,7 @@
 // The listing of a whole tape as document 01 words it, for every bytes: a header and one line for each block, or the one
 // line of the refusal.
 ghost use mathlib.Core.Path.{_≡_};
-ghost use Prim.Native.Nat.{_+_, _-_, _/_, _≤_};
+ghost use Prim.Native.Nat.{_-_, _/_, _≤_};
 ghost use lib.ListN.{length};
 ghost use Rattle.machine.specs.Checks.{blockRefusal, refusalNumber};
 ghost use Rattle.machine.specs.Numbers.{LimitsBelow, Rampable, numbersOf};
@@ -10,9 +10,8 @@ ghost use Rattle.listing.specs.Text.{header, refusedAt};
 ghost use Rattle.listing.specs.Store.{Stored};
 ghost use Rattle.tape.specs.Tape.{limitsBytes, recordBytes, tapeBlocks, tapeLimits};
 ghost use Rattle.tape.specs.Display.{mostBytes};
-ghost use Rattle.givenlist.specs.Given.{mostGiven};
-ghost use Rattle.tapelist.specs.Listing.{Accepted, StoredGiven, acceptedText, headerSize, linesOf, listingOf, mostJunctions, textSize};
-use givenlist::put_given;
+ghost use Rattle.tapelist.specs.Listing.{Accepted, acceptedText, headerSize, linesOf, listingOf, mostJunctions, textSize};
+use givenlist::store_given;
 use line::Given;
 use listing::behind;
 use listing::put_header;
@@ -81,14 +80,6 @@ fn put_head(text: &mut [u8]) -> usize
     ensures { λ r. ⌜ Stored (now (text .entry)) 0 header r (now (text .exit)) ⌝ }
 {
     behind(put_header(text, 0), 0)
-}
-
-// Stores the line of a block given out, where it has room.
-fn store_given(text: &mut [u8], at: usize, g: Given) -> usize
-    requires { ⌜ at + mostGiven ≤ length (now text) ⌝ }
-    ensures { λ r. ⌜ StoredGiven (now (text .entry)) at g r (now (text .exit)) ⌝ }
-{
-    behind(put_given(text, at, g), at)
 }
 
 // Stores the lines of an accepted tape's blocks from its plan.

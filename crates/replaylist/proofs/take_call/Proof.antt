@@ -1,6 +1,7 @@
 -- `replaylist::take_call`: the promise of `take`, with the line of its answer.
 use mathlib.Core.Path.{sym, ap, _∙_}
 use Rattle.line.specs.Answers.{takeMeans, refused}
+use Rattle.replaylist.specs.Texts.{answerText}
 use Rattle.replaylist.proofs.Runs.{called}
 use borrow.Author.Needs.{needs}
 use Rattle.replaylist.proofs.take_call.Statement.{statement}
@@ -12,8 +13,8 @@ take-requires c κs = search needs
 enum-known-g : tie.Need-enum-known-g
 enum-known-g c = search needs
 
-write-given-requires : tie.Need-write-given-requires
-write-given-requires c κs = search needs
+store-given-requires : tie.Need-store-given-requires
+store-given-requires c κs = search needs
 
 enum-known-why : tie.Need-enum-known-why
 enum-known-why c = search needs
@@ -28,11 +29,12 @@ same-length : tie.Need-same-length
 same-length c = search needs
 
 returns : tie.Need-returns
+unfolding answerText
 returns c =
     let w = c .before .before in
     let g = w .before .before .before in
     let a = g .before .before in
-    called (a .take .ensures) (w .write-given .ensures) (ap takeMeans (sym (g .g .given .1)))
+    called (a .take .ensures) (w .store-given .ensures) (ap takeMeans (sym (g .g .given .1)))
 
 same-length-2 : tie.Need-same-length-2
 same-length-2 c = search needs
@@ -51,7 +53,7 @@ take-call-spec =
     (tie.spec
     take-requires
     enum-known-g
-    write-given-requires
+    store-given-requires
     enum-known-why
     refusal-number-requires
     write-refused-requires

@@ -1,7 +1,7 @@
 -- `replaylist::write_added`: the line has room.
 use native.Mathlib.Omega.{arith}
 use Rattle.replaylist.specs.Texts.{answerText}
-use Rattle.replaylist.proofs.Lines.{wrote}
+use Rattle.givenlist.proofs.Lines.{wrote}
 use borrow.Author.Needs.{needs}
 use Rattle.replaylist.proofs.write_added.Statement.{statement}
 use Rattle.replaylist.proofs.write_added.Tie as tie

@@ -1,6 +1,7 @@
 -- `replaylist::write_refused`: the line has room.
 use Rattle.replaylist.specs.Texts.{answerText}
-use Rattle.replaylist.proofs.Lines.{wrote, refused-few}
+use Rattle.givenlist.proofs.Lines.{wrote}
+use Rattle.replaylist.proofs.Lines.{refused-few}
 use borrow.Author.Needs.{needs}
 use Rattle.replaylist.proofs.write_refused.Statement.{statement}
 use Rattle.replaylist.proofs.write_refused.Tie as tie
