@@ -1,37 +1,55 @@
 -- From a call's promise to that of the function for C. Assumes nothing.
 use mathlib.Core.List.{List}
-use mathlib.Core.Path.{_≡_, refl, ap, _∙_}
-use Prim.Native.Nat.{ℕ, zero, suc}
+use mathlib.Core.Path.{_≡_, refl, sym, ap, subst, _∙_}
+use Prim.Native.Nat.{ℕ, zero, suc, _<_}
+use native.Mathlib.Omega.{arith}
 use lib.IntN.{ℤ}
-use Rattle.line.specs.Answers.{Answer}
-use Rattle.line.specs.Blocks.{Call, addAnswer}
-use Rattle.planner.specs.Calls.{Called, Showed}
-use Rattle.fullerecru.specs.Planners.{answerNumber, movesAfter, numbersAfter, Exported, Lent, Listed}
+use lib.ListN.{length}
+use Rattle.machine.specs.declared.Block.{Block}
+use Rattle.machine.specs.declared.Limits.{Limits}
+use Rattle.line.specs.Answers.{Answer, accepted, gave, refused}
+use Rattle.line.specs.Blocks.{Call, add, take, addRefusal, addAnswer}
+use Rattle.line.specs.Ring.{ringAnswer, showRefusal}
+use Rattle.planner.specs.Calls.{Called, Freshened, Showed}
+use Rattle.planner.specs.View.{viewOf}
+use Rattle.fullerecru.specs.Planners.{answerNumber, movesAfter, numbersAfter, TakenOut}
 
--- A call by its number,
-pub exported : {m m′ : List ℕ} {call : Call} {said : Answer} (n : ℕ) → Called m call said m′ → n ≡ answerNumber said → Exported m call n m′
-exported n c e =
-    record {
-      sized = c .sized;
-      number-is = e ∙ ap answerNumber (c .answer);
-      after = c .after;
-      line = λ line h. let said = c .line line h in (e ∙ ap answerNumber (said .0), said .1);
-    }
+-- A fresh planner by its number and its limits.
+pub fresh-by : {m m′ : List ℕ} {read l : Limits} {n k : ℕ} → Freshened m read k m′ → n ≡ k → read ≡ l → Freshened m l n m′
+fresh-by {m} {m′} {read} {n} f e same = subst (λ (x : Limits). Freshened m x n m′) same (subst (λ (j : ℕ). Freshened m read j m′) (sym e) f)
 
--- with what is lent to it,
-pub lent : {m m′ : List ℕ} {call : Call} {said : Answer} → Called m call said m′ → (moves moves′ : List ℤ) (numbers numbers′ : List ℕ)
-    → moves′ ≡ movesAfter said moves → numbers′ ≡ numbersAfter said numbers → Lent m call moves moves′ numbers numbers′
-lent c moves moves′ numbers numbers′ e f =
-    record {
-      moves-are = e ∙ ap (λ (a : Answer). movesAfter a moves) (c .answer);
-      numbers-are = f ∙ ap (λ (a : Answer). numbersAfter a numbers) (c .answer);
-      line = λ line h. let said = c .line line h .0 in (e ∙ ap (λ (a : Answer). movesAfter a moves) said, f ∙ ap (λ (a : Answer). numbersAfter a numbers) said);
-    }
-
--- and the plan.
-pub listed : {m held exit : List ℕ} {said : Answer} (n : ℕ) → Showed m held said exit → n ≡ answerNumber said → Listed m held n exit
-listed n s e = record { number-is = e ∙ ap answerNumber (s .answer) ∙ back _; list = s .list; line = s .line }
+-- An answer that is a number's is that of its own number.
+by-number : {said : Answer} {n : ℕ} (k : ℕ) → said ≡ addAnswer k → n ≡ answerNumber said → said ≡ addAnswer n
+by-number k p q = p ∙ ap addAnswer (sym (q ∙ ap answerNumber p ∙ back k))
   where
-    back : (n : ℕ) → answerNumber (addAnswer n) ≡ n
+    back : (k : ℕ) → answerNumber (addAnswer k) ≡ k
     back zero = refl
-    back (suc n) = refl
+    back (suc k) = refl
+
+-- An add by its number,
+pub added-by : {m m′ : List ℕ} {b : Block} {said : Answer} {n : ℕ} → Called m (add b) said m′ → n ≡ answerNumber said → Called m (add b) (addAnswer n) m′
+unfolding ringAnswer
+added-by {m} {m′} {b} c e = subst (λ (a : Answer). Called m (add b) a m′) (by-number (addRefusal (viewOf m .count) b) (c .answer) e) c
+
+-- showing the plan by its number,
+pub shown-by : {m lent left : List ℕ} {said : Answer} {n : ℕ} → Showed m lent said left → n ≡ answerNumber said → Showed m lent (addAnswer n) left
+shown-by {m} {lent} {left} s e = subst (λ (a : Answer). Showed m lent a left) (by-number (showRefusal (viewOf m) (length lent)) (s .answer) e) s
+
+-- and a take by its number and the lists that are lent to it.
+module _ {m m′ : List ℕ} {said : Answer} {n : ℕ} (c : Called m take said m′) (e : n ≡ answerNumber said) (moves : List ℤ) {moves′ : List ℤ} (numbers : List ℕ) {numbers′ : List ℕ} where
+  pub taken-out : moves′ ≡ movesAfter said moves → numbers′ ≡ numbersAfter said numbers → TakenOut m n m′ moves moves′ numbers numbers′
+  taken-out f g =
+      record {
+        said = said;
+        called = c;
+        number-is = e;
+        moves-are = f;
+        numbers-are = g;
+        unchanged = λ h. unchanged said (c .unchanged) e f g h;
+      }
+    where
+      unchanged : (said : Answer) → ((k : ℕ) → said ≡ refused k → m′ ≡ m) → n ≡ answerNumber said → moves′ ≡ movesAfter said moves → numbers′ ≡ numbersAfter said numbers
+          → 0 < n → (m′ ≡ m) × (moves′ ≡ moves) × (numbers′ ≡ numbers)
+      unchanged accepted u e f g h = absurd (omega arith)
+      unchanged (gave _) u e f g h = absurd (omega arith)
+      unchanged (refused k) u e f g h = (u k refl, f, g)

@@ -1,3 +1,4 @@
+pub mod Demand
 pub mod Displayed
 pub mod FromBytes
 pub mod WholeTapes

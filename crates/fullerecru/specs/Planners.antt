@@ -1,18 +1,15 @@
 -- What the planner's functions for C return and leave in the lists that they are lent.
 use mathlib.Core.List.{List, [], _∷_}
 use mathlib.Core.Path.{_≡_}
-use Prim.Native.Nat.{ℕ, _+_}
+use Prim.Native.Nat.{ℕ, _<_}
 use lib.IntN.{ℤ}
-use lib.ListN.{length}
-use Rattle.profile.specs.Line.{Highest}
-use Rattle.machine.specs.Line.{stepsOf}
+use Rattle.machine.specs.declared.Block.{Block}
+use Rattle.machine.specs.declared.Limits.{Limits}
 use Rattle.line.specs.Answers.{Answer, accepted, gave, refused}
-use Rattle.line.specs.Blocks.{Call, Line, lineAnswer, lineAfter, linePlan}
-use Rattle.line.specs.Holds.{Holds}
-use Rattle.line.specs.Ring.{ringAnswer, ringAfter, showRefusal}
+use Rattle.line.specs.Blocks.{Call, add, take, addAnswer}
+use Rattle.line.specs.Demand.{Demand3}
 use Rattle.line.specs.declared.Given.{Given}
-use Rattle.planner.specs.Calls.{shownList}
-use Rattle.planner.specs.View.{memorySize, viewOf}
+use Rattle.planner.specs.Calls.{Called}
 use Rattle.fullerecru.specs.Moves.{blockMoves}
 
 -- the number on the display; 0 says accepted
@@ -51,28 +48,48 @@ numbersAfter accepted held = held
 numbersAfter (gave g) held = givenNumbers g
 numbersAfter (refused n) held = held
 
--- an add or a take by its number
-pub record Exported (entry : List ℕ) (call : Call) (number : ℕ) (exit : List ℕ) : Type 0 where
-  pub sized : length exit ≡ memorySize
-  pub number-is : number ≡ answerNumber (ringAnswer (viewOf entry) call)
-  pub after : viewOf exit ≡ ringAfter (viewOf entry) call
-  pub line : (line : Line) → Holds (viewOf entry) line → (number ≡ answerNumber (lineAnswer line call)) × Holds (viewOf exit) (lineAfter line call)
-
 -- a block given out in lent lists
 pub record Gave (g : Given) (moves : List ℤ) (numbers : List ℕ) : Type 0 where
   pub moves-are : moves ≡ movesFor g
   pub numbers-are : numbers ≡ givenNumbers g
 
--- the lists that are lent to a call, by the ring that the memory holds and by every line of blocks that it holds
-pub record Lent (memory : List ℕ) (call : Call) (moves moves′ : List ℤ) (numbers numbers′ : List ℕ) : Type 0 where
-  pub moves-are : moves′ ≡ movesAfter (ringAnswer (viewOf memory) call) moves
-  pub numbers-are : numbers′ ≡ numbersAfter (ringAnswer (viewOf memory) call) numbers
-  pub line : (line : Line) → Holds (viewOf memory) line
-      → (moves′ ≡ movesAfter (lineAnswer line call) moves) × (numbers′ ≡ numbersAfter (lineAnswer line call) numbers)
+-- A take, whose answer C sees as a number and in the lists that it lends. An add and showing the plan answer no more than a number, which
+-- `addAnswer` reads: they promise what the planner's own calls do.
+pub record TakenOut (entry : List ℕ) (number : ℕ) (exit : List ℕ) (moves moves′ : List ℤ) (numbers numbers′ : List ℕ) : Type 0 where
+  pub said : Answer
+  pub called : Called entry take said exit
+  pub number-is : number ≡ answerNumber said
+  pub moves-are : moves′ ≡ movesAfter said moves
+  pub numbers-are : numbers′ ≡ numbersAfter said numbers
+  -- refused: the memory and both lists are as they were
+  pub unchanged : 0 < number → (exit ≡ entry) × (moves′ ≡ moves) × (numbers′ ≡ numbers)
 
--- the plan in a lent list
-pub record Listed (memory held : List ℕ) (number : ℕ) (exit : List ℕ) : Type 0 where
-  pub number-is : number ≡ showRefusal (viewOf memory) (length held)
-  pub list : exit ≡ shownList (showRefusal (viewOf memory) (length held)) (viewOf memory) held
-  pub line : (line : Line) → Holds (viewOf memory) line → length held ≡ length (line .blocks) + 1
-      → (exit ≡ linePlan line) × Highest (line .committed) (stepsOf (line .limits) (line .blocks)) exit
+-- What C sees of a call: the number of an add; the number and the two lists, before and after, of a take.
+pub data Seen : Type 0 where
+  added : (number : ℕ) → Seen
+  taken : (number : ℕ) (moves moves′ : List ℤ) (numbers numbers′ : List ℕ) → Seen
+
+-- an answer that is seen so
+abbrev pub SeenAs : Answer → Seen → Type 0
+SeenAs a (added n) = a ≡ addAnswer n
+SeenAs a (taken n moves moves′ numbers numbers′) = (n ≡ answerNumber a) × (moves′ ≡ movesAfter a moves) × (numbers′ ≡ numbersAfter a numbers)
+
+pub data SeenAll : List Answer → List Seen → Type 0 where
+  none : SeenAll [] []
+  next : {a : Answer} {s : Seen} {answers : List Answer} {seen : List Seen} → SeenAs a s → SeenAll answers seen → SeenAll (a ∷ answers) (s ∷ seen)
+
+-- Calls of `fullerecru_add` and `fullerecru_take` one after the other, each on the memory that the one before it left.
+pub data ExportedAll : (memory : List ℕ) (calls : List Call) (seen : List Seen) (memory′ : List ℕ) → Type 0 where
+  none : {m : List ℕ} → ExportedAll m [] [] m
+  add-next : {m m′ m″ : List ℕ} {b : Block} {n : ℕ} {calls : List Call} {seen : List Seen} → Called m (add b) (addAnswer n) m′ → ExportedAll m′ calls seen m″
+      → ExportedAll m (add b ∷ calls) (added n ∷ seen) m″
+  take-next : {m m′ m″ : List ℕ} {n : ℕ} {moves moves′ : List ℤ} {numbers numbers′ : List ℕ} {calls : List Call} {seen : List Seen}
+      → TakenOut m n m′ moves moves′ numbers numbers′ → ExportedAll m′ calls seen m″
+      → ExportedAll m (take ∷ calls) (taken n moves moves′ numbers numbers′ ∷ seen) m″
+
+-- Demand 3 of such calls from a fresh planner: of the answers that C saw, the number told, and what showing the plan in a lent list then
+-- returned and left there.
+pub record ExportedDemand3 (l : Limits) (calls : List Call) (seen : List Seen) (told : ℕ) (lent : List ℕ) (number : ℕ) (left : List ℕ) : Type 0 where
+  pub answers : List Answer
+  pub seen-are : SeenAll answers seen
+  pub demand : Demand3 l calls answers told lent (addAnswer number) left

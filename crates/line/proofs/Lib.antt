@@ -1,8 +1,8 @@
--- Demand 3: the ring's answers are those of the line that the calls make.
+-- A ring that holds a line answers each call as the line does, and holds the line after it.
 pub mod Steps
 pub mod Places
 pub mod Walk
 pub mod Adds
 pub mod Takes
 pub mod Shows
-pub mod Demand
+pub mod Calls

@@ -4,18 +4,17 @@ use mathlib.Core.Path.{_≡_, refl, ap, sym, _∙_}
 use mathlib.Core.List.{List, _∷_}
 use Prim.Native.Nat.{ℕ, zero, suc, _+_, _<_}
 use native.Mathlib.Omega.{arith}
-use lib.Dec.{eqb}
 use lib.ListN.{length, drop, drop-of-length-le}
 use lib.Seq.{drop-cons}
-use Rattle.profile.specs.Line.{Step, noStep, reachAt, Highest}
+use Rattle.profile.specs.Line.{Step, noStep, reachAt}
 use Rattle.profile.specs.Passes.{brake, exitFrom, forward}
 use Rattle.profile.proofs.Plan.{plan-forward}
 use Rattle.profile.proofs.Highest.{plan-highest}
-use Rattle.machine.specs.Checks.{pick}
 use Rattle.machine.specs.Line.{stepsOf}
 use Rattle.line.specs.Blocks.{Line, linePlan}
-use Rattle.line.specs.Ring.{Ring, placeAt, toldOf, speedsFrom, shownIn, showRefusal}
+use Rattle.line.specs.Ring.{Ring, placeAt, toldOf, speedsFrom, shownIn}
 use Rattle.line.specs.Holds.{Holds}
+use Rattle.line.specs.Demand.{PlanHighest}
 use Rattle.machine.proofs.Steps.{steps-length}
 use Rattle.line.proofs.Places.{placed-reach}
 
@@ -58,10 +57,6 @@ module _ {r : Ring} {line : Line} (h : Holds r line) where
       ∙ ap (λ (c : ℕ). forward c steps) (h .committed)
       ∙ sym (plan-forward (line .committed) steps (h .brakes))
 
-  -- and so its highest lawful profile.
-  pub holds-highest : Highest (line .committed) steps (shownIn r)
-  holds-highest = rw holds-shown (plan-highest (line .committed) steps (h .brakes))
-
-  -- A lent list is refused by 11 where it is not one longer than the line's blocks.
-  pub holds-refusal : (n : ℕ) → showRefusal r n ≡ pick (eqb n (length (line .blocks) + 1)) 0 11
-  holds-refusal n = rw holds-told
+  -- its highest lawful profile.
+  pub holds-highest : PlanHighest line
+  holds-highest = plan-highest (line .committed) steps (h .brakes)

@@ -1,7 +1,7 @@
 -- A take: a ring that holds a line answers as the line does and holds the rest afterwards. From profile's laws of the plan and
 -- those of steps and places. Assumes nothing.
 use mathlib.Core.Bool.{true, cond}
-use mathlib.Core.Path.{_≡_, refl, ap, _∙_}
+use mathlib.Core.Path.{_≡_, refl, ap, subst, _∙_}
 use mathlib.Core.List.{List, [], _∷_}
 use Prim.Native.Nat.{ℕ, zero, suc, _+_, _<_}
 use native.Mathlib.Numerals.{add-one}
@@ -10,20 +10,21 @@ use lib.ListN.{length, drop, getD}
 use Rattle.profile.specs.Line.{Step, capAt, reachAt, numberAt}
 use Rattle.profile.specs.Passes.{brake, exitFrom, planOf, Braked}
 use Rattle.profile.proofs.Plan.{plan-first, plan-exit, take-keeps}
-use Rattle.profile.proofs.Highest.{plan-lawful}
+use Rattle.profile.proofs.Highest.{plan-lawful, plan-highest}
 use Rattle.profile.proofs.Kept.{braked-taken}
 use Rattle.machine.specs.Line.{stepsOf}
-use Rattle.machine.specs.Numbers.{numbersOf, rampOf, rampable, noRamp}
+use Rattle.machine.specs.Numbers.{numbersOf, reachFrom, rampOf, Rampable, rampable, noRamp}
 use Rattle.machine.specs.declared.Block.{Block}
 use Rattle.machine.specs.declared.Limits.{Limits}
 use Rattle.machine.specs.declared.Numbers.{Numbers}
 use Rattle.machine.proofs.Rampables.{rampable-holds}
-use Rattle.machine.proofs.RampLaws.{numbers-rampable}
+use Rattle.machine.proofs.RampLaws.{numbers-rampable, ramp-fills}
 use Rattle.line.specs.declared.Given.{Given}
 use Rattle.line.specs.Answers.{gave, givenOf}
-use Rattle.line.specs.Blocks.{Line, take, takeAnswer, takeAfter, lineAnswer, lineAfter}
+use Rattle.line.specs.Blocks.{Line, Call, add, take, addRefusal, addAnswer, takeAnswer, takeAfter, lineAnswer, lineAfter}
 use Rattle.line.specs.Ring.{Place, Ring, noPlace, placeAt, blockIn, numbersIn, givenIn, takenFrom, takenAnswer, takenIn, ringAnswer, ringAfter}
 use Rattle.line.specs.Holds.{keptAt, Placed, Holds, noBlock}
+use Rattle.line.specs.Demand.{GivenFrom}
 use Rattle.machine.proofs.Steps.{steps-length, steps-reach}
 use Rattle.line.proofs.Steps.{rest-cap, rest-brakes, rest-braked, rest-under, rest-entered}
 use Rattle.line.proofs.Places.{placed-reach}
@@ -39,6 +40,11 @@ rampedOf b n entry exit =
       exit = exit;
       ramp = cond (rampable n entry exit) (rampOf n entry exit) noRamp;
     }
+
+-- the reach among a block's numbers is that of its acceleration and length
+reach-own : (l : Limits) (a : Block) → numbersOf l a .reach ≡ reachFrom (numbersOf l a .accel) (numbersOf l a .length)
+unfolding numbersOf
+reach-own l a = refl
 
 -- a line by its parts
 abbrev lineOf : Limits → (committed : ℕ) → List Block → Line
@@ -64,22 +70,31 @@ module _ {r : Ring} {l : Limits} {committed : ℕ} {a : Block} {rest : List Bloc
   exit-right : exitFrom (r .committed) (placeAt r 0 .reach) (placeAt r 0 .limit) ≡ exit
   exit-right = omega (arith, h .committed, placed-reach (h .placed) 0 (omega arith), h .kept 1 (omega arith) some, exit-is)
 
-  -- the plan's first two numbers are within the block's cap and reach
-  ramped : rampable (numbersOf l a) committed exit ≡ true
+  -- the plan's first two numbers are within the block's cap and reach,
+  ramped : Rampable (numbersOf l a) committed exit
   ramped =
       let lawful = plan-lawful committed steps (h .brakes) in
-      rampable-holds (numbersOf l a) committed exit
-      (numbers-rampable l a committed exit (h .passed 0 (omega arith)) (h .entered (omega arith))
+      numbers-rampable l a committed exit (h .passed 0 (omega arith)) (h .entered (omega arith))
       (omega (arith, exit-is, rest-under l a rest))
       (omega (arith, lawful .falls 0 some, lawful .begins, steps-reach noBlock l (a ∷ rest) 0 (omega arith)))
-      (omega (arith, lawful .rises 0 some, lawful .begins, steps-reach noBlock l (a ∷ rest) 0 (omega arith))))
+      (omega (arith, lawful .rises 0 some, lawful .begins, steps-reach noBlock l (a ∷ rest) 0 (omega arith)))
 
   -- so the block is given out as the line says
   given-right : givenIn r ≡ givenOf l a (numberAt (planOf committed steps) 0) exit
   unfolding givenIn givenOf
   given-right =
       (λ i. rampedOf (h .placed .block 0 (omega arith) i) (h .placed .numbers 0 (omega arith) i) (h .committed i) (exit-right i))
-      ∙ rw (plan-first committed steps (h .brakes), ramped)
+      ∙ rw (plan-first committed steps (h .brakes), rampable-holds (numbersOf l a) committed exit ramped)
+
+  -- with a ramp that is as long as the block
+  given-from : GivenFrom (lineOf l committed (a ∷ rest)) (givenOf l a (numberAt (planOf committed steps) 0) exit)
+  unfolding givenOf
+  given-from = record {
+    highest = plan-highest committed steps (h .brakes);
+    entry = refl;
+    exit = refl;
+    fills = rw (plan-first committed steps (h .brakes)) (ramp-fills (numbersOf l a) committed exit ramped (reach-own l a));
+  }
 
   -- block k of the rest was block k + 1
   shifted : (k : ℕ) → placeAt (takenFrom r) k ≡ placeAt r (suc k)
@@ -138,3 +153,17 @@ holds-take {r} {line} = go (line .limits) (line .committed) (line .blocks) (r .c
     go l c [] (suc n) e h = absurd (omega (arith, h .counted))
     go l c (a ∷ rest) zero e h = absurd (omega (arith, h .counted))
     go l c (a ∷ rest) (suc n) e h = (ap gave (given-right h), taken-holds h)
+
+-- A block that is given out has its speeds from the line's highest lawful profile, and a ramp as long as itself.
+pub holds-given : {r : Ring} {line : Line} → Holds r line → (c : Call) (g : Given) → lineAnswer line c ≡ gave g → GivenFrom line g
+unfolding lineAnswer
+holds-given {r} {line} h (add b) g e = absurd (go (addRefusal (length (line .blocks)) b) e)
+  where
+    go : (n : ℕ) → addAnswer n ≡ gave g → ⊥
+    go zero e = let z : _≡_ {A = ℕ} 0 1 = cc in omega arith
+    go (suc n) e = let z : _≡_ {A = ℕ} 0 1 = cc in omega arith
+holds-given {r} {line} h take g e = go (line .limits) (line .committed) (line .blocks) h e
+  where
+    go : (l : Limits) (c : ℕ) (blocks : List Block) → Holds r (lineOf l c blocks) → takeAnswer l blocks (planOf c (stepsOf l blocks)) ≡ gave g → GivenFrom (lineOf l c blocks) g
+    go l c [] h e = absurd (let z : _≡_ {A = ℕ} 0 1 = cc in omega arith)
+    go l c (a ∷ rest) h e = subst (λ (x : Given). GivenFrom (lineOf l c (a ∷ rest)) x) (let s : _ ≡ g = cc in s) (given-from h)

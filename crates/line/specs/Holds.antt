@@ -1,17 +1,16 @@
--- A ring that holds a line, and demand 3.
+-- A ring that holds a line.
 use mathlib.Core.Path.{_≡_}
 use mathlib.Core.List.{List}
 use Prim.Native.Nat.{ℕ, zero, suc, _≤_, _<_}
 use lib.ListN.{length, getD}
-use Rattle.profile.specs.Line.{capAt, Highest}
+use Rattle.profile.specs.Line.{capAt}
 use Rattle.profile.specs.Passes.{CanBrake, Braked}
 use Rattle.machine.specs.Checks.{limitsRefusal, blockRefusal}
 use Rattle.machine.specs.Numbers.{numbersOf, blockCap}
 use Rattle.machine.specs.Line.{stepsOf}
 use Rattle.machine.specs.declared.Block.{Block}
 use Rattle.machine.specs.declared.Limits.{Limits}
-use Rattle.line.specs.Answers.{Answer}
-use Rattle.line.specs.Blocks.{mostHeld, Line, Call, freshLine, linePlan, lineAnswers, lineAfterAll}
+use Rattle.line.specs.Blocks.{mostHeld, Line}
 use Rattle.line.specs.Ring.{Ring, placeAt, blockIn, numbersIn}
 
 -- what is read past a line's end
@@ -46,11 +45,3 @@ pub record Holds (r : Ring) (line : Line) : Type 0 where
   pub kept : Braked (stepsOf (line .limits) (line .blocks)) (keptAt r) 1
   pub brakes : CanBrake (line .committed) (stepsOf (line .limits) (line .blocks))
   pub entered : 0 < length (line .blocks) → line .committed ≤ blockCap (line .limits) (blockAt (line .blocks) 0)
-
--- Demand 3 of a list of calls from a fresh planner with limits l: every call is answered as the line says; the number
--- told is the line's; the plan shown is the line's highest lawful profile, so a lawful one exists and none is above it
-pub record Demand3 (l : Limits) (calls : List Call) (answers : List Answer) (told : ℕ) (shown : List ℕ) : Type 0 where
-  pub answered : answers ≡ lineAnswers (freshLine l) calls
-  pub number : told ≡ length (lineAfterAll (freshLine l) calls .blocks)
-  pub plan : shown ≡ linePlan (lineAfterAll (freshLine l) calls)
-  pub highest : Highest (lineAfterAll (freshLine l) calls .committed) (stepsOf l (lineAfterAll (freshLine l) calls .blocks)) shown

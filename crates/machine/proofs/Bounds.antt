@@ -92,7 +92,7 @@ pub record LimitsIn (l : Limits) : Type 0 where
 value-in : (low high value : ℕ) → within low high value ≡ true → (low ≤ value) × (value ≤ high)
 value-in low high value e = let h = both _ _ e in (leb-true low value (h .0), leb-true value high (h .1))
 
-axes-in : (high : ℕ) (a : Axes) → axesWithin high a ≡ true → AxesIn high a
+axes-in : (high : ℕ) (a : Axes) → axesWithin 1 high a ≡ true → AxesIn high a
 axes-in high a e =
     let h = both (within 1 high (a .x) && within 1 high (a .y)) (within 1 high (a .z)) e in
     let g = both (within 1 high (a .x)) (within 1 high (a .y)) (h .0) in

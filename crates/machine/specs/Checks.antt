@@ -3,7 +3,7 @@ use Prim.Native.Nat.{ℕ, max}
 use mathlib.Core.Bool.{Bool, true, false, not, _&&_}
 use lib.Dec.{leb, ltb, eqb}
 use lib.IntN.{natAbs}
-use Rattle.machine.specs.Ranges.{mostAccel, mostSpeed, mostJump, mostChord, leastTick, mostTick, mostMove, mostFeed, mostRadius, mostMark}
+use Rattle.machine.specs.Ranges.{leastAccel, mostAccel, leastSpeed, mostSpeed, leastJump, mostJump, leastChord, mostChord, leastTick, mostTick, mostMove, leastFeed, mostFeed, mostRadius, mostMark}
 use Rattle.machine.specs.declared.Axes.{Axes}
 use Rattle.machine.specs.declared.Limits.{Limits}
 use Rattle.machine.specs.declared.Block.{Block}
@@ -40,16 +40,16 @@ pick false a b = b
 abbrev pub within : (low high value : ℕ) → Bool
 within low high value = leb low value && leb value high
 
--- the values of the three axes are from 1 to high
-abbrev pub axesWithin : (high : ℕ) → Axes → Bool
-axesWithin high a = within 1 high (a .x) && within 1 high (a .y) && within 1 high (a .z)
+-- the values of the three axes are from low to high
+abbrev pub axesWithin : (low high : ℕ) → Axes → Bool
+axesWithin low high a = within low high (a .x) && within low high (a .y) && within low high (a .z)
 
 -- every machine limit is in its range
 unfoldable pub limitsWithin : Limits → Bool
 limitsWithin l =
-    axesWithin mostAccel (l .accel)
-    && axesWithin mostSpeed (l .speed)
-    && (within 1 mostJump (l .jump) && within 1 mostChord (l .chord) && within leastTick mostTick (l .tick))
+    axesWithin leastAccel mostAccel (l .accel)
+    && axesWithin leastSpeed mostSpeed (l .speed)
+    && (within leastJump mostJump (l .jump) && within leastChord mostChord (l .chord) && within leastTick mostTick (l .tick))
 
 -- 1 where a machine limit is outside its range, else 0
 unfoldable pub limitsRefusal : Limits → ℕ
@@ -68,6 +68,6 @@ unfoldable pub blockRefusal : Block → ℕ
 blockRefusal b =
     pick (eqb (greatestMove b) 0) 2
     (pick (ltb mostMove (greatestMove b)) 3
-    (pick (not (within 1 mostFeed (b .feed))) 4
+    (pick (not (within leastFeed mostFeed (b .feed))) 4
     (pick (ltb mostRadius (b .radius)) 5
     (pick (ltb mostMark (b .mark)) 6 0))))

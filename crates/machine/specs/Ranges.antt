@@ -2,18 +2,30 @@
 use Prim.Native.Nat.{ℕ}
 
 -- acceleration limit of an axis, µm/s²
+abbrev pub leastAccel : ℕ
+leastAccel = 1
+
 abbrev pub mostAccel : ℕ
 mostAccel = 20_000_000
 
 -- speed limit of an axis, µm/s
+abbrev pub leastSpeed : ℕ
+leastSpeed = 1
+
 abbrev pub mostSpeed : ℕ
 mostSpeed = 1_000_000
 
 -- corner jump J, µm/s
+abbrev pub leastJump : ℕ
+leastJump = 1
+
 abbrev pub mostJump : ℕ
 mostJump = 1_000_000
 
 -- chord tolerance E, µm
+abbrev pub leastChord : ℕ
+leastChord = 1
+
 abbrev pub mostChord : ℕ
 mostChord = 1_000
 
@@ -29,6 +41,9 @@ abbrev pub mostMove : ℕ
 mostMove = 1_000_000
 
 -- feed, µm/s
+abbrev pub leastFeed : ℕ
+leastFeed = 1
+
 abbrev pub mostFeed : ℕ
 mostFeed = 1_000_000
 

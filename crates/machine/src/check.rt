@@ -9,13 +9,21 @@ use crate::Refusal;
 use crate::measure::moves_of;
 use arith::whole::larger;
 
-// Greatest acceleration limit, µm/s².
+// Smallest and greatest acceleration limit, µm/s².
+pub const LEAST_ACCEL: u64 = 1;
+
 pub const MOST_ACCEL: u64 = 20_000_000;
-// Greatest speed limit and greatest corner jump, µm/s.
+// Smallest and greatest speed limit, µm/s.
+pub const LEAST_SPEED: u64 = 1;
+
 pub const MOST_SPEED: u64 = 1_000_000;
+// Smallest and greatest corner jump, µm/s.
+pub const LEAST_JUMP: u64 = 1;
 
 pub const MOST_JUMP: u64 = 1_000_000;
-// Greatest chord tolerance, µm.
+// Smallest and greatest chord tolerance, µm.
+pub const LEAST_CHORD: u64 = 1;
+
 pub const MOST_CHORD: u64 = 1_000;
 // Smallest and greatest tick, microseconds.
 pub const LEAST_TICK: u64 = 100;
@@ -23,7 +31,9 @@ pub const LEAST_TICK: u64 = 100;
 pub const MOST_TICK: u64 = 10_000;
 // Greatest move on an axis, µm, either way.
 pub const MOST_MOVE: u64 = 1_000_000;
-// Greatest feed, µm/s.
+// Smallest and greatest feed, µm/s.
+pub const LEAST_FEED: u64 = 1;
+
 pub const MOST_FEED: u64 = 1_000_000;
 // Greatest radius, µm.
 pub const MOST_RADIUS: u64 = 10_000_000;
@@ -56,11 +66,11 @@ fn is_within(low: u64, high: u64, value: u64) -> bool
     low <= value && value <= high
 }
 
-// Whether the three values are from 1 to `high`.
-fn are_within(high: u64, a: Axes) -> bool
-    ensures { λ r. ⌜ r ≡ axesWithin high a ⌝ }
+// Whether the three values are from `low` to `high`.
+fn are_within(low: u64, high: u64, a: Axes) -> bool
+    ensures { λ r. ⌜ r ≡ axesWithin low high a ⌝ }
 {
-    is_within(1, high, a.x) & is_within(1, high, a.y) & is_within(1, high, a.z)
+    is_within(low, high, a.x) & is_within(low, high, a.y) & is_within(low, high, a.z)
 }
 
 // Refusal 1, or none.
@@ -69,9 +79,10 @@ pub fn check_limits(l: Limits) -> Checked
 {
     let accel = l.accel;
     let speed = l.speed;
-    let axes = are_within(MOST_ACCEL, accel) & are_within(MOST_SPEED, speed);
-    let rest = is_within(1, MOST_JUMP, l.jump)
-        & is_within(1, MOST_CHORD, l.chord)
+    let axes = are_within(LEAST_ACCEL, MOST_ACCEL, accel)
+        & are_within(LEAST_SPEED, MOST_SPEED, speed);
+    let rest = is_within(LEAST_JUMP, MOST_JUMP, l.jump)
+        & is_within(LEAST_CHORD, MOST_CHORD, l.chord)
         & is_within(LEAST_TICK, MOST_TICK, l.tick);
     if axes & rest {
         Checked::Passed
@@ -99,7 +110,7 @@ pub fn check_block(b: Block) -> Checked
     if MOST_MOVE < most {
         return Checked::Refused(Refusal::Long);
     }
-    if !is_within(1, MOST_FEED, b.feed) {
+    if !is_within(LEAST_FEED, MOST_FEED, b.feed) {
         return Checked::Refused(Refusal::Feed);
     }
     if MOST_RADIUS < b.radius {

@@ -1,3 +1,4 @@
+pub mod Demand
 pub mod Outcomes
 pub mod Steps
 pub mod View

@@ -16,26 +16,42 @@ use Rattle.line.specs.declared.Given.{Given}
 use Rattle.line.specs.Answers.{Answer, accepted, gave, refused}
 use Rattle.line.specs.Blocks.{mostHeld, Call, add, take, addRefusal, addAnswer}
 use Rattle.line.specs.Ring.{putLast, addedIn, givenIn, takenFrom, takenAnswer, takenIn, ringAnswer, ringAfter, toldOf, shownIn, showRefusal}
-use Rattle.line.proofs.Demand.{holds-fresh, holds-call}
+use Rattle.line.proofs.Calls.{holds-fresh, holds-call}
 use Rattle.line.proofs.Shows.{holds-told, holds-shown, holds-highest}
 use Rattle.planner.specs.View.{memorySize, viewOf}
 use Rattle.planner.proofs.View.{view-sized}
 use Rattle.planner.specs.Calls.{Memory, GaveFirst, Called, Freshened, freshIn, Showed, shownList, Told}
 
+-- An answer is not two at once.
+accepted-not : (n : ℕ) → accepted ≡ refused n → ⊥
+accepted-not n e = let z : _≡_ {A = ℕ} 0 1 = cc in omega arith
+
+gave-not : (g : Given) (n : ℕ) → gave g ≡ refused n → ⊥
+gave-not g n e = let z : _≡_ {A = ℕ} 0 1 = cc in omega arith
+
 -- A call whose answer and memory are the ring's answers and leaves what the line says.
-called : (m m′ : List ℕ) (call : Call) (said : Answer) → length m′ ≡ memorySize → said ≡ ringAnswer (viewOf m) call → viewOf m′ ≡ ringAfter (viewOf m) call → Called m call said m′
-called m m′ call said sized answer after =
+called : (m m′ : List ℕ) (call : Call) (said : Answer) → length m′ ≡ memorySize → said ≡ ringAnswer (viewOf m) call → viewOf m′ ≡ ringAfter (viewOf m) call
+    → ((n : ℕ) → said ≡ refused n → m′ ≡ m) → Called m call said m′
+called m m′ call said sized answer after unchanged =
     record {
       sized = sized;
       answer = answer;
       after = after;
+      unchanged = unchanged;
       line = λ line h. let next = holds-call call h in (answer ∙ next .0, rw after (next .1));
     }
 
 module _ (m : List ℕ) (sized : length m ≡ memorySize) (l : Limits) where
   -- Limits refused,
   pub fresh-refused : (n : ℕ) → 0 < n → n ≡ limitsRefusal l → Freshened m l n m
-  fresh-refused n h e = record { sized = sized; answer = e; after = unchanged n h ∙ ap (λ (k : ℕ). freshIn k (viewOf m) l) e; line = λ z. absurd (omega arith) }
+  fresh-refused n h e =
+      record {
+        sized = sized;
+        answer = e;
+        after = unchanged n h ∙ ap (λ (k : ℕ). freshIn k (viewOf m) l) e;
+        unchanged = λ p. refl;
+        line = λ z. absurd (omega arith);
+      }
     where
       unchanged : (n : ℕ) → 0 < n → viewOf m ≡ freshIn n (viewOf m) l
       unchanged zero h = absurd (omega arith)
@@ -48,6 +64,7 @@ module _ (m : List ℕ) (sized : length m ≡ memorySize) (l : Limits) where
         sized = s;
         answer = e;
         after = v ∙ ap (λ (k : ℕ). freshIn k (viewOf m) l) e;
+        unchanged = λ p. absurd (omega arith);
         line = λ z. rw v (holds-fresh l (viewOf m .places) (sym e) (view-sized m));
       }
 
@@ -55,7 +72,7 @@ module _ (m : List ℕ) (sized : length m ≡ memorySize) (l : Limits) where
 refused-by : (m : List ℕ) (b : Block) (n : ℕ) → length m ≡ memorySize → 0 < n → n ≡ addRefusal (viewOf m .count) b → Called m (add b) (refused n) m
 unfolding ringAnswer ringAfter
 refused-by m b n sized h e =
-    called m m (add b) (refused n) sized (answered n h ∙ ap addAnswer e) (unchanged n h ∙ ap (λ (k : ℕ). addedIn k (viewOf m) b) e)
+    called m m (add b) (refused n) sized (answered n h ∙ ap addAnswer e) (unchanged n h ∙ ap (λ (k : ℕ). addedIn k (viewOf m) b) e) (λ k q. refl)
   where
     answered : (n : ℕ) → 0 < n → refused n ≡ addAnswer n
     answered zero h = absurd (omega arith)
@@ -84,19 +101,21 @@ module _ (m : List ℕ) (b : Block) (sized : length m ≡ memorySize) where
   add-put m′ e room held =
       let none = sym (ap (λ (k : ℕ). firstOf k (pick (leb mostHeld (viewOf m .count)) 7 0)) (sym e) ∙ ap (λ (t : Bool). pick t 7 0) (lt-leb mostHeld (viewOf m .count) room)) in
       called m m′ (add b) accepted (held .sized) (ap addAnswer none) (held .view ∙ ap (λ (k : ℕ). addedIn k (viewOf m) b) none)
+      (λ k q. absurd (accepted-not k q))
 
 module _ (m : List ℕ) where
   -- A take of none,
   pub take-refused : length m ≡ memorySize → viewOf m .count ≡ 0 → Called m take (refused 8) m
   unfolding ringAnswer ringAfter
   take-refused sized e =
-      called m m take (refused 8) sized (ap (λ (k : ℕ). takenAnswer k (viewOf m)) (sym e)) (ap (λ (k : ℕ). takenIn k (viewOf m)) (sym e))
+      called m m take (refused 8) sized (ap (λ (k : ℕ). takenAnswer k (viewOf m)) (sym e)) (ap (λ (k : ℕ). takenIn k (viewOf m)) (sym e)) (λ k q. refl)
 
   -- and of the first block.
   pub take-gave : (given : Given) (m′ : List ℕ) → 0 < viewOf m .count → GaveFirst m given m′ → Called m take (gave given) m′
   unfolding ringAnswer ringAfter
   take-gave given m′ h g =
       called m m′ take (gave given) (g .held .sized) (ap gave (g .given) ∙ answered (viewOf m .count) h) (g .held .view ∙ left (viewOf m .count) h)
+      (λ k q. absurd (gave-not given k q))
     where
       answered : (n : ℕ) → 0 < n → gave (givenIn (viewOf m)) ≡ takenAnswer n (viewOf m)
       answered zero h = absurd (omega arith)
@@ -119,7 +138,13 @@ module _ (m held : List ℕ) where
       record {
         answer = ap addAnswer (sym (right-length e));
         list = s ∙ ap (λ (k : ℕ). shownList k (viewOf m) held) (sym (right-length e));
-        line = λ line h n. (s ∙ holds-shown h, rw s (holds-highest h));
+        unchanged = λ k q. absurd (accepted-not k q);
+        line = λ line h.
+            record {
+              highest = holds-highest h;
+              fits = λ n. (refl, s ∙ holds-shown h);
+              other = λ n. absurd (n (e ∙ ap (λ (k : ℕ). k + 1) (holds-told h)));
+            };
       }
 
   pub shown-none : (length held ≡ toldOf (viewOf m) + 1 → ⊥) → Showed m held (refused 11) held
@@ -127,7 +152,13 @@ module _ (m held : List ℕ) where
       record {
         answer = ap addAnswer (sym (wrong-length e));
         list = ap (λ (k : ℕ). shownList k (viewOf m) held) (sym (wrong-length e));
-        line = λ line h n. absurd (e (n ∙ ap (λ (k : ℕ). k + 1) (sym (holds-told h))));
+        unchanged = λ k q. refl;
+        line = λ line h.
+            record {
+              highest = holds-highest h;
+              fits = λ n. absurd (e (n ∙ ap (λ (k : ℕ). k + 1) (sym (holds-told h))));
+              other = λ n. (refl, refl);
+            };
       }
 
 -- The number told.

@@ -1,15 +1,14 @@
 -- What the calls of a planner promise: the answer, and every number of the memory afterwards.
-use mathlib.Core.List.{List}
+use mathlib.Core.List.{List, [], _∷_}
 use mathlib.Core.Path.{_≡_}
-use Prim.Native.Nat.{ℕ, zero, suc, _+_}
+use Prim.Native.Nat.{ℕ, zero, suc, _<_}
 use lib.ListN.{length}
-use Rattle.profile.specs.Line.{Highest}
 use Rattle.profile.specs.Passes.{brakeFrom, exitFrom}
-use Rattle.machine.specs.Line.{stepsOf}
 use Rattle.machine.specs.Checks.{limitsRefusal}
 use Rattle.machine.specs.declared.Limits.{Limits}
-use Rattle.line.specs.Answers.{Answer}
-use Rattle.line.specs.Blocks.{Call, Line, addAnswer, freshLine, lineAnswer, lineAfter, linePlan}
+use Rattle.line.specs.Answers.{Answer, refused}
+use Rattle.line.specs.Blocks.{Call, Line, addAnswer, freshLine, lineAnswer, lineAfter}
+use Rattle.line.specs.Demand.{ShownOf}
 use Rattle.line.specs.Holds.{Holds}
 use Rattle.line.specs.declared.Given.{Given}
 use Rattle.line.specs.Ring.{Place, Ring, givenIn, takenFrom, freshRing, ringAnswer, ringAfter, toldOf, shownIn, showRefusal}
@@ -32,13 +31,24 @@ pub record GaveFirst (entry : List ℕ) (out : Given) (exit : List ℕ) : Type 0
   pub given : out ≡ givenIn (viewOf entry)
   pub held : Memory (takenFrom (viewOf entry)) exit
 
--- An add or a take. The view determines every number of the memory: the law `view-determines`.
+-- A memory that holds a line of blocks. A client needs to know no more of it than what the promises below say.
+abbrev pub MemoryHolds : List ℕ → Line → Type 0
+MemoryHolds m line = Holds (viewOf m) line
+
+-- An add or a take. The view determines every number of the memory: the law `view-determines`. A refusal leaves each as it was.
 -- For every line of blocks that the memory holds, the line says what is answered and which line is held afterwards.
 pub record Called (entry : List ℕ) (call : Call) (said : Answer) (exit : List ℕ) : Type 0 where
   pub sized : length exit ≡ memorySize
   pub answer : said ≡ ringAnswer (viewOf entry) call
   pub after : viewOf exit ≡ ringAfter (viewOf entry) call
-  pub line : (line : Line) → Holds (viewOf entry) line → (said ≡ lineAnswer line call) × Holds (viewOf exit) (lineAfter line call)
+  pub unchanged : (n : ℕ) → said ≡ refused n → exit ≡ entry
+  pub line : (line : Line) → MemoryHolds entry line → (said ≡ lineAnswer line call) × MemoryHolds exit (lineAfter line call)
+
+-- Adds and takes one after the other, each on the memory that the one before it left, with their answers.
+pub data CalledAll : (memory : List ℕ) (calls : List Call) (answers : List Answer) (memory′ : List ℕ) → Type 0 where
+  none : {m : List ℕ} → CalledAll m [] [] m
+  next : {m m′ m″ : List ℕ} {c : Call} {a : Answer} {calls : List Call} {answers : List Answer} → Called m c a m′ → CalledAll m′ calls answers m″
+      → CalledAll m (c ∷ calls) (a ∷ answers) m″
 
 -- A fresh planner, or refusal 1 and no change.
 abbrev pub freshIn : (refusal : ℕ) → Ring → Limits → Ring
@@ -49,7 +59,8 @@ pub record Freshened (entry : List ℕ) (l : Limits) (refusal : ℕ) (exit : Lis
   pub sized : length exit ≡ memorySize
   pub answer : refusal ≡ limitsRefusal l
   pub after : viewOf exit ≡ freshIn (limitsRefusal l) (viewOf entry) l
-  pub line : refusal ≡ 0 → Holds (viewOf exit) (freshLine l)
+  pub unchanged : 0 < refusal → exit ≡ entry
+  pub line : refusal ≡ 0 → MemoryHolds exit (freshLine l)
 
 -- The plan in a lent list, or refusal 11 and no change.
 abbrev pub shownList : (refusal : ℕ) → Ring → List ℕ → List ℕ
@@ -59,10 +70,10 @@ shownList (suc n) r list = list
 pub record Showed (memory held : List ℕ) (said : Answer) (exit : List ℕ) : Type 0 where
   pub answer : said ≡ addAnswer (showRefusal (viewOf memory) (length held))
   pub list : exit ≡ shownList (showRefusal (viewOf memory) (length held)) (viewOf memory) held
-  pub line : (line : Line) → Holds (viewOf memory) line → length held ≡ length (line .blocks) + 1
-      → (exit ≡ linePlan line) × Highest (line .committed) (stepsOf (line .limits) (line .blocks)) exit
+  pub unchanged : (n : ℕ) → said ≡ refused n → exit ≡ held
+  pub line : (line : Line) → MemoryHolds memory line → ShownOf line held said exit
 
 -- The number of blocks held.
 pub record Told (memory : List ℕ) (number : ℕ) : Type 0 where
   pub number-is : number ≡ toldOf (viewOf memory)
-  pub line : (line : Line) → Holds (viewOf memory) line → number ≡ length (line .blocks)
+  pub line : (line : Line) → MemoryHolds memory line → number ≡ length (line .blocks)

@@ -81,13 +81,21 @@ pub struct TakenPlanner {
 impl Planner {
     // Blocks that are held at most.
     pub const PLACES: u64 = memory::PLACES;
-    // Ranges of the limits; each begins at 1, but for the tick. Accelerations, µm/s².
+    // Ranges of the limits, both ends allowed. Acceleration of an axis, µm/s².
+    pub const LEAST_ACCEL: u64 = machine::check::LEAST_ACCEL;
+
     pub const MOST_ACCEL: u64 = machine::check::MOST_ACCEL;
-    // Speeds and corner jump, µm/s.
+    // Speed of an axis, µm/s.
+    pub const LEAST_SPEED: u64 = machine::check::LEAST_SPEED;
+
     pub const MOST_SPEED: u64 = machine::check::MOST_SPEED;
+    // Corner jump, µm/s.
+    pub const LEAST_JUMP: u64 = machine::check::LEAST_JUMP;
 
     pub const MOST_JUMP: u64 = machine::check::MOST_JUMP;
     // Chord tolerance, µm.
+    pub const LEAST_CHORD: u64 = machine::check::LEAST_CHORD;
+
     pub const MOST_CHORD: u64 = machine::check::MOST_CHORD;
     // Tick, microseconds.
     pub const LEAST_TICK: u64 = machine::check::LEAST_TICK;

@@ -38,5 +38,4 @@ rows-more (b ∷ answers) a = ap (λ (l : List ℕ). rowOf b ++ l) (rows-more an
 
 -- A planner's promise of a call, with its answer as a row.
 pub stepped : {call : Call} {m m′ row : List ℕ} {said : Answer} → Called m call said m′ → row ≡ rowOf said → Stepped call m m′ row
-stepped c e =
-    record { line = λ line h. let s = c .line line h in (e ∙ ap rowOf (s .0), s .1) }
+stepped {said} c e = record { said = said; called = c; row-is = e }

@@ -1,4 +1,4 @@
--- A run of calls, one call more, and demand 3 of all. From the line's definitions, the laws of rows and the planner's promises. Assumes nothing.
+-- A run of calls, one call more, and demand 3 of all. From the laws of rows and the planner's theorem. Assumes nothing.
 use mathlib.Core.List.{List, [], _∷_, _++_}
 use mathlib.Core.Path.{_≡_, refl, sym, ap, subst, _∙_}
 use Prim.Native.Nat.{ℕ, zero, suc, _+_, _-_, _*_, _/_, _≤_}
@@ -8,17 +8,15 @@ use native.Mathlib.Omega.{arith}
 use lib.ListN.{length, take, drop, length-drop}
 use lib.Seq.{length-take-le, take-all, take-at, drop-at, drop-drop}
 use borrow.Rule.Slice.PartMut.{putMid}
-use Rattle.profile.specs.Line.{Highest}
-use Rattle.machine.specs.Line.{stepsOf}
+use Rattle.machine.specs.Checks.{limitsRefusal}
 use Rattle.machine.specs.declared.Block.{Block}
 use Rattle.machine.specs.declared.Limits.{Limits}
 use Rattle.line.specs.Answers.{Answer}
 use Rattle.line.specs.Blocks as blocks
-use Rattle.line.specs.Blocks.{Call, Line, add, mostHeld, freshLine, lineAnswer, lineAfter, lineAnswers, lineAfterAll}
-use Rattle.line.specs.Holds.{Holds}
-use Rattle.line.proofs.Demand.{limits-after}
-use Rattle.planner.specs.Calls.{Told, Showed}
-use Rattle.planner.specs.View.{viewOf}
+use Rattle.line.specs.Blocks.{Call, add}
+use Rattle.line.specs.Demand.{Demand3}
+use Rattle.planner.specs.Calls.{none, Freshened, Told, Showed}
+use Rattle.planner.proofs.Demand.{called-more, told-few, demand3}
 use Rattle.tape.specs.Tape.{limitsBytes}
 use Rattle.replay.specs.Trace.{wordOf, blockOf, callBy, callOf, callBytes, callStart, callIn, callAt, callsIn, callsFrom, traceCalls}
 use Rattle.replay.specs.Rows.{rowsOf, rowSize}
@@ -39,17 +37,6 @@ call-add bytes h e = go (wordOf bytes 0) h ∙ ap add (sym e)
     go zero h = absurd (h refl)
     go (suc n) h = refl
 
--- The line, and the answers, after one call more.
-after-more : (line : Line) (calls : List Call) (c : Call) → lineAfterAll line (calls ++ c ∷ []) ≡ lineAfter (lineAfterAll line calls) c
-unfolding lineAfterAll
-after-more line [] c = refl
-after-more line (d ∷ calls) c = after-more (lineAfter line d) calls c
-
-answers-more : (line : Line) (calls : List Call) (c : Call) → lineAnswers line (calls ++ c ∷ []) ≡ lineAnswers line calls ++ lineAnswer (lineAfterAll line calls) c ∷ []
-unfolding lineAnswers lineAfterAll
-answers-more line [] c = refl
-answers-more line (d ∷ calls) c = ap (λ (l : List Answer). lineAnswer line d ∷ l) (answers-more (lineAfter line d) calls c)
-
 -- One call more of bytes.
 pub calls-more : (bytes : List ℕ) (j n : ℕ) → callsFrom bytes j (suc n) ≡ callsFrom bytes j n ++ callIn bytes (j + n) ∷ []
 unfolding callsFrom
@@ -60,19 +47,17 @@ calls-more bytes j (suc n) =
 
 -- A run of no calls,
 pub ran-none : (bytes m rows : List ℕ) → Ran (callsFrom bytes 0 0) m m (take 0 rows)
-unfolding callsFrom lineAnswers lineAfterAll rowsOf
-ran-none bytes m rows = record { line = λ line h. (refl, h) }
+unfolding callsFrom rowsOf
+ran-none bytes m rows = record { answers = []; called = none; rows-are = refl }
 
 -- and of one call more.
 ran-call : {calls : List Call} {m m′ m″ rows row : List ℕ} {c : Call} → Ran calls m m′ rows → Stepped c m′ m″ row → Ran (calls ++ c ∷ []) m m″ (rows ++ row)
-ran-call {calls} {c} r s = record {
-  line = λ line h.
-      let old = r .line line h in
-      let new = s .line (lineAfterAll line calls) (old .1) in (
-        (λ i. old .0 i ++ new .0 i) ∙ sym (rows-more (lineAnswers line calls) (lineAnswer (lineAfterAll line calls) c)) ∙ ap rowsOf (sym (answers-more line calls c)),
-        rw (after-more line calls c) (new .1),
-      );
-}
+ran-call r s =
+    record {
+      answers = r .answers ++ s .said ∷ [];
+      called = called-more (r .called) (s .called);
+      rows-are = (λ i. r .rows-are i ++ s .row-is i) ∙ sym (rows-more (r .answers) (s .said));
+    }
 
 ran-more : (bytes : List ℕ) (k : ℕ) {m m′ m″ rows row : List ℕ} → Ran (callsFrom bytes 0 k) m m′ rows → Stepped (callIn bytes k) m′ m″ row
     → Ran (callsFrom bytes 0 (k + 1)) m m″ (rows ++ row)
@@ -98,37 +83,18 @@ ran-all trace rows {m} {m′} k e s r =
     subst (λ (j : ℕ). Ran (callsFrom (drop limitsBytes trace) 0 j) m m′ rows) all
     (subst (λ (l : List ℕ). Ran (callsFrom (drop limitsBytes trace) 0 k) m m′ l) (take-all (rowSize * k) rows (omega arith)) r)
 
--- A planner tells at most 64.
-pub told-few : {m : List ℕ} {line : Line} (told : ℕ) → Holds (viewOf m) line → Told m told → told ≤ mostHeld
-told-few {line} told h t = omega (arith, t .line line h, h .room)
-
--- Demand 3 of calls that were run from a fresh planner.
-module _ {l : Limits} {m m′ answers′ : List ℕ} (calls : List Call) (told : ℕ) (fresh : Holds (viewOf m) (freshLine l)) (ran : Ran calls m m′ answers′) where
-  abbrev end : Line
-  end = lineAfterAll (freshLine l) calls
-
-  pub held : Holds (viewOf m′) end
-  held = ran .line (freshLine l) fresh .1
-
-  -- the promise of told and shown behind it
-  pub demanded : (plan shown : List ℕ) {said : Answer} → Told m′ told → Showed m′ (take (told + 1) plan) said shown → length plan ≡ planSize
-      → length shown ≡ length (take (told + 1) plan) → Demanded l calls told answers′ plan (shown ++ drop (told + 1) plan)
-  demanded plan shown t s p e =
-      let few : told ≤ mostHeld = told-few told held t in
-      let long : length (take (told + 1) plan) ≡ told + 1 = length-take-le (told + 1) plan (omega arith) in
-      let number : told ≡ length (end .blocks) = t .line end held in
-      let plan-is = s .line end held (long ∙ ap (λ (n : ℕ). n + 1) number) in
-      let front : take (told + 1) (shown ++ drop (told + 1) plan) ≡ shown = take-at shown (drop (told + 1) plan) (told + 1) (e ∙ long) in
-      record {
-        rows = ran .line (freshLine l) fresh .0;
-        demand =
-            record {
-              answered = refl;
-              number = number;
-              plan = front ∙ plan-is .0;
-              highest =
-                  subst (λ (list : List ℕ). Highest (end .committed) (stepsOf l (end .blocks)) list) (sym front)
-                  (subst (λ (x : Limits). Highest (end .committed) (stepsOf x (end .blocks)) shown) (limits-after (freshLine l) calls) (plan-is .1));
-            };
-        rest = drop-at shown (drop (told + 1) plan) (told + 1) (e ∙ long);
-      }
+-- Demand 3 of calls that were run from a fresh planner, with the promise of told and shown behind them.
+pub demanded : {l : Limits} {m₀ m m′ answers′ : List ℕ} {calls : List Call} {told n : ℕ} {said : Answer} (plan shown : List ℕ)
+    → limitsRefusal l ≡ 0 → Freshened m₀ l n m → Ran calls m m′ answers′ → Told m′ told → Showed m′ (take (told + 1) plan) said shown → length plan ≡ planSize
+    → length shown ≡ length (take (told + 1) plan) → Demanded l calls told answers′ plan (shown ++ drop (told + 1) plan)
+demanded {l} {m₀} {m} {calls} {told} plan shown passed fresh ran t s p e =
+    let long : length (take (told + 1) plan) ≡ told + 1 = length-take-le (told + 1) plan (omega (arith, told-few t)) in
+    let front : take (told + 1) (shown ++ drop (told + 1) plan) ≡ shown = take-at shown (drop (told + 1) plan) (told + 1) (e ∙ long) in
+    let demand = demand3 (subst (λ (k : ℕ). Freshened m₀ l k m) (fresh .answer ∙ passed) fresh) (ran .called) t s in
+    let accepts = demand .plan .fits (long ∙ ap (λ (n : ℕ). n + 1) (demand .number)) .0 in
+    record {
+      answers = ran .answers;
+      rows = ran .rows-are;
+      demand = rw front (subst (λ (a : Answer). Demand3 l calls (ran .answers) told (take (told + 1) plan) a shown) accepts demand);
+      rest = drop-at shown (drop (told + 1) plan) (told + 1) (e ∙ long);
+    }

@@ -7,8 +7,9 @@ use lib.Dec.{eqb}
 use lib.ListN.{length, take, drop}
 use Rattle.machine.specs.Checks.{pick, refusalNumber}
 use Rattle.machine.specs.declared.Limits.{Limits}
-use Rattle.line.specs.Blocks.{mostHeld, Call, freshLine, lineAnswers}
-use Rattle.line.specs.Holds.{Demand3}
+use Rattle.line.specs.Answers.{Answer, accepted}
+use Rattle.line.specs.Blocks.{mostHeld, Call}
+use Rattle.line.specs.Demand.{Demand3}
 use Rattle.tape.specs.Tape.{limitsAt}
 use Rattle.tape.specs.Display.{_then_}
 use Rattle.replay.specs.Trace.{callsIn, traceCalls, traceRefusal}
@@ -37,11 +38,12 @@ abbrev pub toldIn : Replayed → ℕ
 toldIn (Done told) = told
 toldIn (Refused why) = 0
 
--- Calls that were run from a fresh planner with limits l: answers′ are the rows of what the line answers; the number told and the
--- first numbers of plan′ meet demand 3; the others are as they were in plan.
+-- Calls that were run from a fresh planner with limits l: answers′ are the rows of what the planner answered; its answers, the number
+-- told and the first numbers of plan′ meet demand 3; the others are as they were in plan.
 pub record Demanded (l : Limits) (calls : List Call) (told : ℕ) (answers′ plan plan′ : List ℕ) : Type 0 where
-  pub rows : answers′ ≡ rowsOf (lineAnswers (freshLine l) calls)
-  pub demand : Demand3 l calls (lineAnswers (freshLine l) calls) told (take (told + 1) plan′)
+  pub answers : List Answer
+  pub rows : answers′ ≡ rowsOf answers
+  pub demand : Demand3 l calls answers told (take (told + 1) plan) accepted (take (told + 1) plan′)
   pub rest : drop (told + 1) plan′ ≡ drop (told + 1) plan
 
 -- Both lists as they were.

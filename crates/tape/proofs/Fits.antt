@@ -9,7 +9,7 @@ use lib.Signed.{mag}
 use Rattle.fields.specs.Layouts.{InWidths}
 use Rattle.fields.proofs.Signed.{bits-lt, mag-natAbs}
 use Rattle.machine.specs.Checks.{pick, within, axesWithin, limitsWithin, limitsRefusal, blockRefusal}
-use Rattle.machine.specs.Ranges.{mostAccel, mostSpeed, mostJump, mostChord, leastTick, mostTick}
+use Rattle.machine.specs.Ranges.{leastAccel, mostAccel, leastSpeed, mostSpeed, leastJump, mostJump, leastChord, mostChord, leastTick, mostTick}
 use Rattle.machine.proofs.Bounds.{in-range, moves-below}
 use Rattle.machine.specs.declared.Axes.{Axes}
 use Rattle.machine.specs.declared.Limits.{Limits}
@@ -36,7 +36,7 @@ both false b e = let z : _≡_ {A = ℕ} 0 1 = cc in absurd (omega arith)
 up-to : (low high v : ℕ) → within low high v ≡ true → v ≤ high
 up-to low high v e = leb-true v high (both (leb low v) (leb v high) e .1)
 
-axes-up-to : (high : ℕ) (a : Axes) → axesWithin high a ≡ true → (a .x ≤ high) × (a .y ≤ high) × (a .z ≤ high)
+axes-up-to : (high : ℕ) (a : Axes) → axesWithin 1 high a ≡ true → (a .x ≤ high) × (a .y ≤ high) × (a .z ≤ high)
 axes-up-to high a e =
     let last = both (within 1 high (a .x) && within 1 high (a .y)) (within 1 high (a .z)) e in
     let first = both (within 1 high (a .x)) (within 1 high (a .y)) (last .0) in
@@ -50,10 +50,10 @@ not-one false e = absurd (omega arith)
 pub limits-fit : (l : Limits) → limitsRefusal l ≡ 0 → InWidths limitsLayout (limitsFields l)
 unfolding limitsRefusal limitsWithin
 limits-fit l e =
-    let all = both (axesWithin mostAccel (l .accel) && axesWithin mostSpeed (l .speed)) _ (not-one _ e) in
-    let axes = both (axesWithin mostAccel (l .accel)) (axesWithin mostSpeed (l .speed)) (all .0) in
-    let rest = both (within 1 mostJump (l .jump) && within 1 mostChord (l .chord)) (within leastTick mostTick (l .tick)) (all .1) in
-    let jump = both (within 1 mostJump (l .jump)) (within 1 mostChord (l .chord)) (rest .0) in
+    let all = both (axesWithin leastAccel mostAccel (l .accel) && axesWithin leastSpeed mostSpeed (l .speed)) _ (not-one _ e) in
+    let axes = both (axesWithin leastAccel mostAccel (l .accel)) (axesWithin leastSpeed mostSpeed (l .speed)) (all .0) in
+    let rest = both (within leastJump mostJump (l .jump) && within leastChord mostChord (l .chord)) (within leastTick mostTick (l .tick)) (all .1) in
+    let jump = both (within leastJump mostJump (l .jump)) (within leastChord mostChord (l .chord)) (rest .0) in
     let a = axes-up-to mostAccel (l .accel) (axes .0) in
     let v = axes-up-to mostSpeed (l .speed) (axes .1) in
     let j = up-to 1 mostJump (l .jump) (jump .0) in

@@ -1,13 +1,10 @@
--- `replay::run_all` meets its contract: the fresh planner holds the fresh line, and `demanded` has the rest. From the planner's promises. Assumes nothing.
-use mathlib.Core.Path.{sym, _∙_}
-use Prim.Native.Nat.{_+_, _≤_}
+-- `replay::run_all` meets its contract: the limits are not refused, and `demanded` has the rest. From the planner's promises. Assumes nothing.
+use mathlib.Core.Path.{sym}
+use Prim.Native.Nat.{_+_}
 use native.Mathlib.Omega.{arith}
 use lib.Seq.{length-take-le}
-use Rattle.line.specs.Blocks.{freshLine, mostHeld}
-use Rattle.line.specs.Holds.{Holds}
-use Rattle.planner.specs.View.{viewOf}
-use Rattle.replay.specs.Trace.{traceCalls}
-use Rattle.replay.proofs.Runs.{told-few, held, demanded}
+use Rattle.planner.proofs.Demand.{told-few}
+use Rattle.replay.proofs.Runs.{demanded}
 use borrow.Author.Needs.{needs}
 use Rattle.replay.proofs.run_all.Statement.{statement}
 use Rattle.replay.proofs.run_all.Tie as tie
@@ -38,16 +35,10 @@ module _ (c : tie.After-told) where
   abbrev start : tie.Start
   start = made .before .before .before .before .before
 
-  fresh-held : Holds (viewOf (made .fresh .last .0)) (freshLine (start .args .l))
-  fresh-held = made .fresh .ensures .line (made .fresh .ensures .answer ∙ start .pre .0)
-
-  few : c .told .result ≤ mostHeld
-  few = told-few (c .told .result) (held (traceCalls (start .args .trace .now)) (c .told .result) fresh-held (ran .run .ensures)) (c .told .ensures)
-
 slice-aggregate-shown : tie.Need-slice-aggregate-shown
 slice-aggregate-shown c =
     let t = c .before .before in
-    sym (length-take-le (t .told .result + 1) (start t .args .plan .now) (omega (arith, few t, start t .pre .3)))
+    sym (length-take-le (t .told .result + 1) (start t .args .plan .now) (omega (arith, told-few (t .told .ensures), start t .pre .3)))
 
 shown-requires : tie.Need-shown-requires
 shown-requires c κs = search needs
@@ -62,8 +53,8 @@ returns : tie.Need-returns
 returns c =
     let w = c .before .before in
     let t = w .before .before .before in
-    demanded (traceCalls (start t .args .trace .now)) (t .told .result) (fresh-held t) (ran t .run .ensures)
-    (start t .args .plan .now) (w .shown .last .1 .0) (t .told .ensures) (w .shown .ensures) (start t .pre .3) (w .shown .kept .1 .0)
+    demanded (start t .args .plan .now) (w .shown .last .1 .0) (start t .pre .0) (made t .fresh .ensures)
+    (ran t .run .ensures) (t .told .ensures) (w .shown .ensures) (start t .pre .3) (w .shown .kept .1 .0)
 
 pub run-all-spec : {M : Type 1} → statement M
 run-all-spec =

@@ -6,7 +6,7 @@ use Rattle.machine.specs.declared.Block.{Block}
 use Rattle.line.specs.Answers.{addMeans}
 use Rattle.line.specs.Blocks.{add}
 use Rattle.planner.specs.Calls.{Called}
-use Rattle.fullerecru.proofs.Displayed.{exported}
+use Rattle.fullerecru.proofs.Displayed.{added-by}
 use Rattle.fullerecru.proofs.planners.fullerecru_add.Statement.{statement}
 use Rattle.fullerecru.proofs.planners.fullerecru_add.Tie as tie
 
@@ -22,7 +22,7 @@ returns c =
     let s = a .before .before in
     let b = s .args in
     let f = s .fits in
-    exported (c .added-number .result)
+    added-by
     (subst (λ (x : Block). Called (b .memory .now) (add x) (addMeans (a .add .result)) (a .add .last .0))
     (λ i. record { x = read-back (f .x) i; y = read-back (f .y) i; z = read-back (f .z) i; feed = b .feed; radius = b .radius; mark = b .mark })
     (a .add .ensures))

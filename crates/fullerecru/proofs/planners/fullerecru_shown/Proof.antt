@@ -1,6 +1,6 @@
 -- `fullerecru::planners::fullerecru_shown`: the promise of `shown`, by its number. Assumes nothing.
 use borrow.Author.Needs.{needs}
-use Rattle.fullerecru.proofs.Displayed.{listed}
+use Rattle.fullerecru.proofs.Displayed.{shown-by}
 use Rattle.fullerecru.proofs.planners.fullerecru_shown.Statement.{statement}
 use Rattle.fullerecru.proofs.planners.fullerecru_shown.Tie as tie
 
@@ -14,7 +14,7 @@ same-length : tie.Need-same-length
 same-length c = search needs
 
 returns : tie.Need-returns
-returns c = listed (c .shown-number .result) (c .before .before .before .shown .ensures) (c .shown-number .ensures)
+returns c = shown-by (c .before .before .before .shown .ensures) (c .shown-number .ensures)
 
 pub fullerecru-shown-spec : {M : Type 1} → statement M
 fullerecru-shown-spec =

@@ -1,4 +1,5 @@
--- Demand 3 for a list of calls of any length, refused ones included. From the laws of one call, told and shown. Assumes nothing.
+-- A list of calls of any length, refused ones included: a ring that holds the fresh line is answered as the line says and holds the line
+-- after them. From the laws of one call. Assumes nothing.
 use mathlib.Core.Path.{_≡_, refl, _∙_}
 use mathlib.Core.List.{List, [], _∷_}
 use Prim.Native.Nat.{ℕ, zero, suc}
@@ -10,11 +11,10 @@ use Rattle.machine.specs.Line.{stepsOf}
 use Rattle.machine.specs.declared.Block.{Block}
 use Rattle.machine.specs.declared.Limits.{Limits}
 use Rattle.line.specs.Blocks.{mostHeld, Line, Call, add, take, freshLine, addRefusal, addAfter, takeAfter, linePlan, lineAnswer, lineAfter, lineAnswers, lineAfterAll}
-use Rattle.line.specs.Ring.{Place, Ring, freshRing, toldOf, shownIn, ringAnswer, ringAfter, ringAnswers, ringAfterAll}
-use Rattle.line.specs.Holds.{Holds, Demand3}
+use Rattle.line.specs.Ring.{Place, Ring, freshRing, ringAnswer, ringAfter, ringAnswers, ringAfterAll}
+use Rattle.line.specs.Holds.{Holds}
 use Rattle.line.proofs.Adds.{holds-add}
 use Rattle.line.proofs.Takes.{holds-take}
-use Rattle.line.proofs.Shows.{holds-told, holds-shown, holds-highest}
 
 -- A fresh ring holds the fresh line, whatever its places hold.
 pub holds-fresh : (l : Limits) (places : List Place) → limitsRefusal l ≡ 0 → length places ≡ mostHeld → Holds (freshRing l places) (freshLine l)
@@ -67,16 +67,3 @@ pub limits-after : (line : Line) (calls : List Call) → lineAfterAll line calls
 unfolding lineAfterAll
 limits-after line [] = refl
 limits-after line (c ∷ calls) = limits-after (lineAfter line c) calls ∙ limits-call line c
-
--- Demand 3: each call is answered, the number told and the plan shown as the line that the calls make says, and that plan is
--- the line's highest lawful profile.
-pub demand3 : (l : Limits) (places : List Place) → limitsRefusal l ≡ 0 → length places ≡ mostHeld → (calls : List Call)
-    → Demand3 l calls (ringAnswers (freshRing l places) calls) (toldOf (ringAfterAll (freshRing l places) calls)) (shownIn (ringAfterAll (freshRing l places) calls))
-demand3 l places e s calls =
-    let all = holds-calls calls (holds-fresh l places e s) in
-    record {
-      answered = all .0;
-      number = holds-told (all .1);
-      plan = holds-shown (all .1);
-      highest = rw (limits-after (freshLine l) calls) at (holds-highest (all .1));
-    }
