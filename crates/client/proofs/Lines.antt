@@ -14,13 +14,9 @@ use Rattle.machine.specs.Line.{stepsAfter, stepsOf}
 use Rattle.machine.specs.declared.Block.{Block}
 use Rattle.machine.specs.declared.Limits.{Limits}
 use Rattle.line.specs.Answers.{Answer, accepted, gave, refused, givenOf}
-use Rattle.line.specs.Blocks.{add, take, addAnswer, freshLine, linePlan, lineAnswer, lineAfter}
-use Rattle.line.specs.Holds.{Holds}
-use Rattle.line.specs.Ring.{Ring, showRefusal}
+use Rattle.line.specs.Blocks.{add, take, freshLine, linePlan, lineAnswer, lineAfter}
 use Rattle.line.specs.declared.Given.{Given}
-use Rattle.line.proofs.Shows.{holds-refusal}
-use Rattle.planner.specs.Calls.{Freshened, Called, shownList}
-use Rattle.planner.specs.View.{viewOf}
+use Rattle.planner.specs.Calls.{MemoryHolds, Freshened, Called, Showed}
 use Rattle.cases.specs.Shop.{machineM}
 use Rattle.client.specs.Work.{Gives, blockOf, lineOfOne, lineOfTwo}
 
@@ -35,14 +31,14 @@ unfolding lineAfter rootOf rootByDigits nextRoot cappedQuotient brake startLimit
 straight-plan = refl
 
 -- one block added to a fresh planner on machine M, and two: the memory holds their line
-held-fresh : {m n : List ℕ} {l : Limits} {refusal : ℕ} → l ≡ machineM → Freshened m l refusal n → Holds (viewOf n) (freshLine machineM)
+held-fresh : {m n : List ℕ} {l : Limits} {refusal : ℕ} → l ≡ machineM → Freshened m l refusal n → MemoryHolds n (freshLine machineM)
 held-fresh e f = rw e at (f .line (f .answer ∙ ap limitsRefusal e ∙ limits-pass))
 
 module _ (a b : Block) {m n p : List ℕ} {l : Limits} {refusal : ℕ} {x : Block} {said : Answer} (el : l ≡ machineM) (ex : x ≡ a) where
-  pub held-one : Freshened m l refusal n → Called n (add x) said p → Holds (viewOf p) (lineOfOne a)
+  pub held-one : Freshened m l refusal n → Called n (add x) said p → MemoryHolds p (lineOfOne a)
   held-one f g = rw ex at (g .line (freshLine machineM) (held-fresh el f) .1)
 
-  pub held-two : {q : List ℕ} {y : Block} {also : Answer} → y ≡ b → Freshened m l refusal n → Called n (add x) said p → Called p (add y) also q → Holds (viewOf q) (lineOfTwo a b)
+  pub held-two : {q : List ℕ} {y : Block} {also : Answer} → y ≡ b → Freshened m l refusal n → Called n (add x) said p → Called p (add y) also q → MemoryHolds q (lineOfTwo a b)
   held-two ey f g h = rw ey at (h .line (lineOfOne a) (held-one f g) .1)
 
 -- the right-angle pair
@@ -116,16 +112,13 @@ still-number n e = same-number n 2 (e ∙ still-answer)
 pub still-refused : accepted ≡ lineAnswer (lineOfOne ahead) (add still) → ⊥
 still-refused e = not-accepted 2 (e ∙ still-answer)
 
--- a list of one number is refused by 11 where one block is held
-short-refusal : {r : Ring} → Holds r (lineOfOne ahead) → showRefusal r 1 ≡ 11
+-- a list of one number is refused by 11 where one block is held, and stays
+pub short-shown : {m left : List ℕ} {n : ℕ} {said : Answer} → MemoryHolds m (lineOfOne ahead) → Showed m (n ∷ []) said left → (said ≡ refused 11) × (left ≡ n ∷ [])
 unfolding lineAfter greatestMove blockRefusal
-short-refusal h = holds-refusal h 1
+short-shown h s = s .line (lineOfOne ahead) h .other (λ e. omega arith)
 
-pub shown-refused : {r : Ring} → Holds r (lineOfOne ahead) → accepted ≡ addAnswer (showRefusal r 1) → ⊥
-shown-refused h e = not-accepted 11 (e ∙ ap addAnswer (short-refusal h))
+pub shown-refused : {said : Answer} → said ≡ refused 11 → accepted ≡ said → ⊥
+shown-refused e q = not-accepted 11 (q ∙ e)
 
-pub short-number : {r : Ring} (n : ℕ) → Holds r (lineOfOne ahead) → refused n ≡ addAnswer (showRefusal r 1) → n ≡ 11
-short-number n h e = same-number n 11 (e ∙ ap addAnswer (short-refusal h))
-
-pub short-kept : {r : Ring} {exit held : List ℕ} → Holds r (lineOfOne ahead) → exit ≡ shownList (showRefusal r 1) r held → exit ≡ held
-short-kept {r} {exit} {held} h e = e ∙ ap (λ (n : ℕ). shownList n r held) (short-refusal h)
+pub short-number : {said : Answer} (n : ℕ) → said ≡ refused 11 → refused n ≡ said → n ≡ 11
+short-number n e q = same-number n 11 (q ∙ e)

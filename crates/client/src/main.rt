@@ -1,4 +1,5 @@
 // A client of the planner: worked results of document 01, each shown from the planner's promises alone.
+ghost use mathlib.Core.Bool.{true};
 ghost use mathlib.Core.Path.{_≡_};
 ghost use Rattle.client.specs.Work.{Gives, blockOf};
 use cases::machine_m;
@@ -7,6 +8,7 @@ use line::Given;
 use line::ShowAnswer;
 use line::TakeAnswer;
 use machine::Block;
+use planner::NUMBERS;
 use planner::Planner;
 
 // A block of feed 20,000 µm/s along X and Y, µm.
@@ -94,6 +96,17 @@ fn refused_still() {
     check::expect(same.told() == 1);
 }
 
+// An add to any planner in lent memory. Returns whether it was refused: then every number of the
+// memory is as it was.
+fn was_refused(memory: &mut [u64; NUMBERS], b: Block) -> bool
+    ensures { λ r. ⌜ (r ≡ true → now (memory .exit) ≡ now (memory .entry)) ⌝ }
+{
+    match planner::add(memory, b) {
+        AddAnswer::Added => false,
+        AddAnswer::Refused(_) => true,
+    }
+}
+
 // A list as long as the blocks is one too short: 11, and it holds what it held.
 fn short_list() {
     let made = Planner::fresh(machine_m());
@@ -113,4 +126,6 @@ fn main() {
     right_angle();
     refused_still();
     short_list();
+    let mut memory = [7u64; NUMBERS];
+    was_refused(&mut memory, block(0, 0, 0));
 }

@@ -8,13 +8,11 @@ use native.Mathlib.Numerals.{add-one}
 use native.Mathlib.Omega.{arith}
 use borrow.Author.Tests.{eq-eqb}
 use lib.ListN.{length, take, drop}
-use Rattle.profile.specs.Line.{Highest}
-use Rattle.machine.specs.Line.{stepsOf}
 use Rattle.line.specs.Answers.{Answer}
 use Rattle.line.specs.Blocks.{Call, Line, lineAnswers, linePlan}
 use Rattle.line.specs.Ring.{Ring, ringAnswer, ringAfter, ringAnswers, ringAfterAll, toldOf, shownIn, showRefusal}
 use Rattle.line.specs.Holds.{Holds}
-use Rattle.line.proofs.Demand.{holds-calls}
+use Rattle.line.proofs.Calls.{holds-calls}
 use Rattle.line.proofs.Shows.{holds-told, holds-shown, holds-highest}
 use Rattle.planner.specs.Calls as planner
 use Rattle.planner.specs.View.{memorySize, viewOf}
@@ -128,6 +126,6 @@ closed {m} {text} {text′} {end} t e s w =
       stored = stored;
       line = λ line h. (
         subst (λ (l : List ℕ). Stored text 0 l end text′) (closing-held h) stored,
-        subst (λ (l : List ℕ). Highest (line .committed) (stepsOf (line .limits) (line .blocks)) l) (holds-shown h) (holds-highest h),
+        holds-highest h,
       );
     }

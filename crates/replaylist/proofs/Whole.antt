@@ -14,7 +14,7 @@ use Rattle.machine.specs.declared.Limits.{Limits}
 use Rattle.line.specs.Blocks.{freshLine, lineAfterAll}
 use Rattle.line.specs.Ring.{ringAnswers, ringAfterAll}
 use Rattle.line.specs.Holds.{Holds}
-use Rattle.line.proofs.Demand.{holds-calls}
+use Rattle.line.proofs.Calls.{holds-calls}
 use Rattle.planner.specs.View.{viewOf}
 use Rattle.planner.specs.Calls.{Freshened}
 use Rattle.tape.specs.Tape.{limitsBytes, limitsAt, zeroBits}

@@ -4,9 +4,8 @@ use mathlib.Core.Path.{_≡_}
 use mathlib.Core.List.{List}
 use Prim.Native.Nat.{ℕ, _+_, _≤_}
 use lib.ListN.{length}
-use Rattle.profile.specs.Line.{Highest}
-use Rattle.machine.specs.Line.{stepsOf}
 use Rattle.line.specs.Blocks.{Call, Line, lineAnswer, lineAfter, lineAnswers, lineAfterAll, linePlan}
+use Rattle.line.specs.Demand.{PlanHighest}
 use Rattle.line.specs.Ring.{ringAnswer, ringAfter, ringAnswers, ringAfterAll, toldOf, shownIn}
 use Rattle.line.specs.Holds.{Holds}
 use Rattle.planner.specs.View.{memorySize, viewOf}
@@ -45,4 +44,4 @@ pub record Closed (memory text : List ℕ) (end : ℕ) (text′ : List ℕ) : Ty
   pub stored : Stored text 0 (closingText (toldOf (viewOf memory)) (shownIn (viewOf memory))) end text′
   pub line : (line : Line) → Holds (viewOf memory) line
       → Stored text 0 (closingText (length (line .blocks)) (linePlan line)) end text′
-      × Highest (line .committed) (stepsOf (line .limits) (line .blocks)) (linePlan line)
+      × PlanHighest line

@@ -5,8 +5,8 @@ use Prim.Native.Nat.{ℕ}
 use borrow.Author.Needs.{needs}
 use borrow.Author.Tests.{eq-eqb}
 use lib.ListN.{getD}
-use Rattle.line.specs.Answers.{accepted, refused, showMeans}
-use Rattle.client.proofs.Lines.{ahead, still, held-one, shown-refused, short-number, short-kept}
+use Rattle.line.specs.Answers.{refused, showMeans}
+use Rattle.client.proofs.Lines.{ahead, still, held-one, short-shown, shown-refused, short-number}
 use Rattle.client.proofs.short_list.Statement.{statement}
 use Rattle.client.proofs.short_list.Tie as tie
 
@@ -36,20 +36,17 @@ module _ (c : tie.After-shown) where
   abbrev made : tie.After-fresh
   made = one .before .before .before
 
-  refuses : accepted ≡ showMeans (c .shown .result) → ⊥
-  refuses e = shown-refused (held-one ahead still (made .before .machine-m .ensures) (one .before .block .ensures) (made .fresh .ensures) (one .add .ensures)) (e ∙ c .shown .ensures .answer)
-
-  eleven : (n : ℕ) → refused n ≡ showMeans (c .shown .result) → n ≡ 11
-  eleven n e = short-number n (held-one ahead still (made .before .machine-m .ensures) (one .before .block .ensures) (made .fresh .ensures) (one .add .ensures)) (e ∙ c .shown .ensures .answer)
-
-  unchanged : c .shown .last .1 .0 ≡ 7 ∷ []
-  unchanged = short-kept (held-one ahead still (made .before .machine-m .ensures) (one .before .block .ensures) (made .fresh .ensures) (one .add .ensures)) (c .shown .ensures .list)
+  -- what it answers and leaves
+  short : (showMeans (c .shown .result) ≡ refused 11) × (c .shown .last .1 .0 ≡ 7 ∷ [])
+  short =
+      short-shown (held-one ahead still (made .before .machine-m .ensures) (one .before .block .ensures) (made .fresh .ensures) (one .add .ensures))
+      (c .shown .ensures)
 
 enum-told : tie.Need-enum-told
 enum-told c = search needs
 
 expect-requires : tie.Need-expect-requires
-expect-requires c κs = absurd (refuses (c .before .before .before) (sym (ap showMeans (c .enum-told .given .1))))
+expect-requires c κs = absurd (shown-refused (short (c .before .before .before) .0) (sym (ap showMeans (c .enum-told .given .1))))
 
 enum-known-why : tie.Need-enum-known-why
 enum-known-why c = search needs
@@ -60,13 +57,13 @@ refusal-number-requires c κs = search needs
 expect-requires-2 : tie.Need-expect-requires-2
 expect-requires-2 c κs =
     let k = c .before .before in
-    eq-eqb _ _ (c .refusal-number .ensures ∙ eleven (k .before .before .before) _ (sym (ap showMeans (k .why .given .1))))
+    eq-eqb _ _ (c .refusal-number .ensures ∙ short-number _ (short (k .before .before .before) .0) (sym (ap showMeans (k .why .given .1))))
 
 array-read-expect : tie.Need-array-read-expect
 array-read-expect c = search needs
 
 expect-requires-3 : tie.Need-expect-requires-3
-expect-requires-3 c κs = eq-eqb _ _ (ap (λ (l : List ℕ). getD l 0 0) (unchanged (c .before .before)))
+expect-requires-3 c κs = eq-eqb _ _ (ap (λ (l : List ℕ). getD l 0 0) (short (c .before .before) .1))
 
 returns : tie.Need-returns
 returns c = search needs

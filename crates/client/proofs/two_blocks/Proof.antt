@@ -47,7 +47,7 @@ listed c =
     let straight = blockOf (pos 1_000) (pos 0) 0 in
     c .shown .ensures .line (lineOfTwo straight straight)
     (held-two straight straight (made .before .machine-m .ensures) (one .before .block .ensures) (two .before .block2 .ensures) (made .fresh .ensures) (one .add .ensures) (two .add2 .ensures))
-    refl .0
+    .fits refl .1
     ∙ straight-plan
 
 array-read-expect : tie.Need-array-read-expect
