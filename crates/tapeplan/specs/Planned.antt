@@ -32,3 +32,10 @@ pub record PlannedTape (s before after : List ℕ) (r : TapePlanned) : Type 0 wh
   pub fault : plannedFault r ≡ planFault s (length before)
   pub list : after ≡ byNumber (planFault s (length before) .number) (planOf 0 (tapeSteps s)) before
   pub highest : planFault s (length before) .number ≡ 0 → Highest 0 (tapeSteps s) after
+
+-- Demand 3 of an accepted tape, from rest to rest, in a list one longer than its blocks: the tape is planned, the list is the plan of its
+-- blocks, so a lawful profile exists, the list is one, and no lawful profile is above it anywhere
+pub record TapeDemand3 (s after : List ℕ) (r : TapePlanned) : Type 0 where
+  pub answered : r ≡ Planned
+  pub plan : after ≡ planOf 0 (tapeSteps s)
+  pub highest : Highest 0 (tapeSteps s) after
