@@ -14,6 +14,13 @@
  * tape is at fault (fullerecru_plan_tape). Any numbers and any bytes are answered: the ranges
  * below are checked, not required.
  *
+ * What the model leaves open: the acceleration limits hold along each block; at a junction the
+ * velocity may step by as much as the corner jump J, and short chords make many such steps. On a
+ * circle whose chords come without their radius, v²/R can pass the acceleration limits many times.
+ * With the radius, v²/R is at most 8 × E / T² (chord tolerance E, tick T). Give each chord its
+ * radius, and choose 8 × E / T² at most the acceleration limit and J at most acceleration limit ×
+ * tick. Between moves of a few µm a corner may have no cap, since lengths are rounded down.
+ *
  * Lent memory: a pointer must not be null and must be aligned as its type asks (8 bytes for the
  * lists of numbers, 1 for bytes). Behind it must be as many items as the array's size or the
  * count beside it says. The lists lent to one call must not overlap where one of them is written.
