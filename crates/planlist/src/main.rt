@@ -1,5 +1,6 @@
 // Lists the tape of standard input: document 01's listing, or the one line of its refusal. Where the input cannot be read to
 // its end, or the output does not take the whole text, a line on standard error says so.
+use arguments::work_asked;
 use libc::STDERR_FILENO;
 use libc::STDOUT_FILENO;
 use streams::Input;
@@ -25,7 +26,21 @@ fn list(tape: &[u8]) {
     }
 }
 
+// Whether a tape is to be listed, as it is where planlist is started without arguments.
+fn is_asked() -> bool {
+    work_asked(
+        b"planlist",
+        b"usage: planlist < tape\n\
+        Plans a whole tape and writes a header and a line for each block, in tape order.\n\
+        Lengths are um, accel is um/s^2; entry, peak and exit are squared speeds.\n\
+        A tape that is refused gives `refused N at P`: P is the record from 1, or 0.\n",
+    )
+}
+
 fn main() {
+    if !is_asked() {
+        return;
+    }
     let mut input = [0u8; INPUT];
     match read_input(&mut input) {
         Input::Bytes(got) => list(&input[..got]),

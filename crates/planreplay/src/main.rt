@@ -9,6 +9,7 @@ ghost use lib.ListN.{length};
 ghost use Rattle.replaylist.specs.Texts.{cutPlace};
 ghost use Rattle.replaylist.specs.Turns.{chunkBytes};
 ghost use Rattle.planreplay.specs.Places.{endCalls, turnBytes};
+use arguments::work_asked;
 use libc::STDERR_FILENO;
 use libc::STDOUT_FILENO;
 use listing::Put;
@@ -175,7 +176,21 @@ fn start(head: &[u8], text: &mut [u8; TEXT]) {
     }
 }
 
+// Whether a trace is to be run, as it is where planreplay is started without arguments.
+fn is_asked() -> bool {
+    work_asked(
+        b"planreplay",
+        b"usage: planreplay < trace\n\
+        Runs recorded calls and writes a line for each: `added`, `refused N`, or the\n\
+        block given out as planlist lists it; then `held N`, and `plan` and its numbers.\n\
+        Refused limits give `refused N at 0`; a call K that is cut, `refused 9 at K`.\n",
+    )
+}
+
 fn main() {
+    if !is_asked() {
+        return;
+    }
     let mut text = io::large_buffer();
     let mut head = [0u8; LIMITS_BYTES];
     match read_input(&mut head) {

@@ -1,2 +1,3 @@
--- The laws of what was read.
+-- The laws of what is read.
+pub mod Answers
 pub mod Within

@@ -1,8 +1,18 @@
 // Standard input as the programs read it.
-ghost use Prim.Native.Nat.{_≤_};
+ghost use mathlib.Core.Path.{_≡_};
 ghost use lib.ListN.{length};
-ghost use Rattle.streams.specs.Input.{inputBytes};
+ghost use Rattle.streams.specs.Input.{nextOf, Within};
 use libc::STDIN_FILENO;
+
+// What one answer of `read` says.
+enum Next {
+    // so many bytes more, at least one
+    More(usize),
+    // the input has ended
+    Ended,
+    // the read failed
+    Failed,
+}
 
 // What was read of standard input.
 pub enum Input {
@@ -12,23 +22,36 @@ pub enum Input {
     Failed,
 }
 
-// Whether the input has ended, asked where fewer bytes were read than there was room for: a read that failed is no
-// end, and neither are more bytes.
-fn has_ended() -> bool {
-    let mut next = [0u8; 1];
-    libc::read(STDIN_FILENO, &mut next) == 0
+// Tells the answers of `read` apart. An error may be told once and be followed by an answer of 0, as by a socket that is
+// reset or a terminal that is hung up: so each answer counts, and none is asked for again.
+fn after(answer: isize) -> Next
+    ensures { λ r. ⌜ r ≡ nextOf answer ⌝ }
+{
+    if answer < 0 {
+        return Next::Failed;
+    }
+    if 0 < answer {
+        return Next::More(answer as usize);
+    }
+    Next::Ended
 }
 
-// Reads until the list is full or the input ends; the bytes stand at the list's beginning. What the input holds is open: the
-// promise is that so many bytes are in the list.
+// Reads until the list is full or the input ends, or until a read fails; the bytes stand at the list's beginning, one
+// read's behind the other's.
+//
+// Open is which of the two answers it gives where the list has room, how many bytes `Bytes` says, and what the list
+// holds then: that is what `read` answers and stores, of which its contract says only that it is -1 or no more than
+// there is room for. What is promised: so many bytes as it says are in the list, and it fails only where there was
+// room to read into. What it makes of each answer is the promise of `after`.
 pub fn read_input(list: &mut [u8]) -> Input
-    ensures { λ r. ⌜ inputBytes r ≤ length (now (list .exit)) ⌝ }
+    ensures { λ r. ⌜ Within (length (now (list .exit))) r ⌝ }
 {
-    let room = list.len();
-    let got = io::read_full(STDIN_FILENO, list);
-    if got < room {
-        if !has_ended() {
-            return Input::Failed;
+    let mut got: usize = 0;
+    while got < list.len() {
+        match after(libc::read(STDIN_FILENO, &mut list[got..])) {
+            Next::More(count) => got += count,
+            Next::Ended => return Input::Bytes(got),
+            Next::Failed => return Input::Failed,
         }
     }
     Input::Bytes(got)

@@ -1,6 +1,7 @@
 //! The programs planlist and planreplay.
 
 use std::env;
+use std::ffi::OsStr;
 use std::io::{Read, Write};
 use std::path::PathBuf;
 use std::process::{Child, Command, ExitStatus, Stdio};
@@ -31,28 +32,64 @@ pub fn planreplay() -> PathBuf {
     path("PLANREPLAY", "planreplay")
 }
 
-/// Starts the program with its input and output.
+/// Starts the program with its input and output; what it complains of is read.
 pub fn start(program: &PathBuf, input: Stdio, output: Stdio) -> Child {
+    start_with(program, &[], input, output)
+}
+
+/// Starts the program with arguments.
+pub fn start_with(program: &PathBuf, words: &[&OsStr], input: Stdio, output: Stdio) -> Child {
     let mut command = Command::new(program);
     command
+        .args(words)
         .stdin(input)
         .stdout(output)
+        .stderr(Stdio::piped())
         .spawn()
         .unwrap_or_else(|error| panic!("{}: {error}", program.display()))
 }
 
+/// What a program wrote until it ended.
+#[derive(Debug)]
+pub struct Written {
+    /// To standard output, as far as that is a pipe.
+    pub text: String,
+    /// To standard error; bytes that are no text are kept as U+FFFD.
+    pub errors: String,
+}
+
 /// What the program writes until it ends by itself; panics if it does not end
 /// in time or ends with another status than 0.
-pub fn text_of(mut child: Child) -> String {
-    let mut output = child.stdout.take().expect("piped");
-    let reader = thread::spawn(move || {
-        let mut text = String::new();
-        output.read_to_string(&mut text).map(|_| text)
-    });
+pub fn written_by(mut child: Child) -> Written {
+    let text = child.stdout.take().map(reader_of);
+    let errors = child.stderr.take().map(reader_of);
     let status = status_of(child);
-    let text = reader.join().expect("no panic").expect("text");
-    assert!(status.success(), "{status} after {text:?}");
-    text
+    let bytes = |reader: Option<JoinHandle<Vec<u8>>>| match reader {
+        Some(reader) => reader.join().expect("no panic"),
+        None => Vec::new(),
+    };
+    let written = Written {
+        text: String::from_utf8(bytes(text)).expect("text"),
+        errors: String::from_utf8_lossy(&bytes(errors)).into_owned(),
+    };
+    assert!(status.success(), "{status} after {written:?}");
+    written
+}
+
+/// Reads a pipe to its end.
+fn reader_of(mut pipe: impl Read + Send + 'static) -> JoinHandle<Vec<u8>> {
+    thread::spawn(move || {
+        let mut bytes = Vec::new();
+        pipe.read_to_end(&mut bytes).expect("bytes");
+        bytes
+    })
+}
+
+/// What the program writes until it ends by itself; panics if it complains.
+pub fn text_of(child: Child) -> String {
+    let written = written_by(child);
+    assert_eq!(written.errors, "", "after {:?}", written.text);
+    written.text
 }
 
 /// The status with which the program ends by itself; panics if it does not end
@@ -98,30 +135,11 @@ pub fn run_in_pieces(program: &PathBuf, input: &[u8], piece: usize) -> String {
 /// What the program writes to standard error for an input when its text goes
 /// to the output.
 pub fn complaint(program: &PathBuf, input: &[u8], output: Stdio) -> String {
-    let mut child = Command::new(program)
-        .stdin(Stdio::piped())
-        .stdout(output)
-        .stderr(Stdio::piped())
-        .spawn()
-        .unwrap_or_else(|error| panic!("{}: {error}", program.display()));
-    let mut errors = child.stderr.take().expect("piped");
+    let mut child = start(program, Stdio::piped(), output);
     let writer = feed(&mut child, input, usize::MAX);
-    status_of(child);
+    let written = written_by(child);
     writer.join().expect("no panic");
-    let mut text = String::new();
-    errors.read_to_string(&mut text).expect("text");
-    text
-}
-
-/// What the program writes to standard output and to standard error when it
-/// reads from the input.
-pub fn both_texts(program: &PathBuf, input: Stdio) -> (String, String) {
-    let output = Command::new(program)
-        .stdin(input)
-        .output()
-        .unwrap_or_else(|error| panic!("{}: {error}", program.display()));
-    let text = |bytes| String::from_utf8(bytes).expect("text");
-    (text(output.stdout), text(output.stderr))
+    written.errors
 }
 
 /// What the program writes for an input.

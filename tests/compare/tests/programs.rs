@@ -2,8 +2,6 @@
 
 use std::fs::File;
 use std::io::Write;
-use std::os::fd::OwnedFd;
-use std::os::unix::net::UnixStream;
 use std::process::Stdio;
 
 use compare::programs::*;
@@ -247,34 +245,4 @@ fn a_failed_write_is_told_on_standard_error() {
         }
     }
     report(6, "texts that could not be written");
-}
-
-/// A folder is open and cannot be read: nothing is listed or run, and the
-/// program says why. An empty tape would be refused by 9.
-#[test]
-fn an_input_that_cannot_be_read_is_told_on_standard_error() {
-    for program in [planlist(), planreplay()] {
-        let folder = File::open("/").expect("a folder");
-        let (text, errors) = both_texts(&program, Stdio::from(folder));
-        assert_eq!(text, "", "{}", program.display());
-        assert!(errors.contains("could not be read"), "{errors:?}");
-    }
-    report(2, "inputs that could not be read");
-}
-
-/// A read that fails in the middle is no end of the input: a socket that has
-/// only the first records, and whose other side is open, fails the next read.
-#[test]
-fn a_part_of_the_input_is_not_taken_for_the_whole() {
-    let tape = example("square-pocket").expect("an example").pack();
-    let trace = example_trace("shop-traffic").expect("an example");
-    for (program, part) in [(planlist(), &tape[..72]), (planreplay(), &trace[..80])] {
-        let (mut near, far) = UnixStream::pair().expect("a pair of sockets");
-        near.write_all(part).expect("room for the part");
-        far.set_nonblocking(true).expect("a socket");
-        let (text, errors) = both_texts(&program, Stdio::from(OwnedFd::from(far)));
-        assert!(!text.contains("held") && !text.contains("mark"), "{text:?}");
-        assert!(errors.contains("could not be read"), "{errors:?}");
-    }
-    report(2, "inputs that broke off");
 }

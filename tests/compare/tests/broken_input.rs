@@ -1,0 +1,326 @@
+//! An input that cannot be read to its end is told on standard error, wherever
+//! its reads begin to fail: planlist then lists nothing, and planreplay writes
+//! only the lines of the chunks of calls that it has read whole.
+
+use std::ffi::{c_char, c_int, CStr};
+use std::fs::{self, File, OpenOptions};
+use std::io::{self, Read, Write};
+use std::net::{TcpListener, TcpStream};
+use std::os::fd::{AsRawFd, OwnedFd};
+use std::os::unix::fs::OpenOptionsExt;
+use std::os::unix::net::UnixStream;
+use std::path::PathBuf;
+use std::process::{Command, Stdio};
+use std::thread;
+use std::time::{Duration, Instant};
+
+use compare::programs::*;
+use compare::report;
+use reference::examples::example;
+use reference::generate::{calls, limits};
+use reference::listing;
+use reference::rng::Rng;
+use reference::tape::{LIMITS_BYTES, MOST_BYTES};
+use reference::trace::{pack_trace, CALL_BYTES};
+
+/// Calls that planreplay reads and runs at a time, and their bytes.
+const CHUNK_CALLS: usize = 300;
+const CHUNK_BYTES: usize = CHUNK_CALLS * CALL_BYTES;
+
+/// A program, an input for it, and where the input is broken off.
+struct Reading {
+    name: &'static str,
+    program: PathBuf,
+    input: Vec<u8>,
+    /// Each a list of places: the input is handed over up to the first, then,
+    /// when that is read, up to the next; when all is read, the reads fail.
+    breaks: Vec<Vec<usize>>,
+    /// How many bytes the program asks for when it has read so many.
+    room: fn(usize) -> usize,
+    /// How many lines it writes for so many bytes and a read that fails.
+    lines: fn(usize) -> usize,
+    /// What it writes for the whole input.
+    text: String,
+}
+
+fn planlist_reading() -> Reading {
+    let input = example("square-pocket").expect("an example").pack();
+    let all = input.len();
+    Reading {
+        name: "planlist",
+        program: planlist(),
+        breaks: vec![
+            vec![],
+            vec![1],
+            vec![LIMITS_BYTES],
+            vec![72],
+            vec![30, 72, 79],
+            vec![72, all],
+            vec![all],
+        ],
+        room: |got| MOST_BYTES + 1 - got,
+        lines: |_| 0,
+        text: listing::planlist(&input),
+        input,
+    }
+}
+
+fn planreplay_reading() -> Reading {
+    let mut rng = Rng::new(21);
+    let limits = limits(&mut rng);
+    let input = pack_trace(&limits, &calls(&mut rng, 2 * CHUNK_CALLS + 20));
+    let border = LIMITS_BYTES + CHUNK_BYTES;
+    let all = input.len();
+    Reading {
+        name: "planreplay",
+        program: planreplay(),
+        breaks: vec![
+            vec![],
+            vec![7],
+            vec![LIMITS_BYTES],
+            vec![10, LIMITS_BYTES, 500, 1_000],
+            vec![border],
+            vec![1_000, border + 3],
+            vec![border + CHUNK_BYTES],
+            vec![border, all],
+            vec![all],
+        ],
+        room: |got| match got.checked_sub(LIMITS_BYTES) {
+            None => LIMITS_BYTES - got,
+            Some(calls) => CHUNK_BYTES - calls % CHUNK_BYTES,
+        },
+        lines: |got| got.saturating_sub(LIMITS_BYTES) / CHUNK_BYTES * CHUNK_CALLS,
+        text: listing::planreplay(&input),
+        input,
+    }
+}
+
+impl Reading {
+    /// Panics unless the program has told that its input broke off after so
+    /// many bytes, and has written no more than the lines that it may.
+    fn expect_broken(&self, got: usize, written: Written) {
+        let lines = self.text.split_inclusive('\n');
+        let text: String = lines.take((self.lines)(got)).collect();
+        let told = format!(
+            "{}: standard input could not be read to its end\n",
+            self.name
+        );
+        assert_eq!(written.errors, told, "{} after {got} bytes", self.name);
+        assert!(
+            written.text == text,
+            "{} after {got} bytes: {:?}",
+            self.name,
+            written.text
+        );
+    }
+
+    /// Runs the program on the far end of a line; the near end hands over the
+    /// input up to each place in turn, when what is before it is read, and is
+    /// closed when all is read.
+    fn run(&self, (mut near, far): Line, places: &[usize]) -> Written {
+        let child = start(&self.program, Stdio::from(far), Stdio::piped());
+        wait_for_read(child.id(), (self.room)(0));
+        let mut got = 0;
+        for place in places {
+            near.write_all(&self.input[got..*place]).expect("a reader");
+            got = *place;
+            wait_for_read(child.id(), (self.room)(got));
+        }
+        drop(near);
+        written_by(child)
+    }
+}
+
+/// Waits until the process waits in a read of standard input for so many bytes,
+/// which are all that it has room for: then it has read what it was handed.
+/// Where the system does not say, or the program reads in another way, it is
+/// given some time instead.
+fn wait_for_read(process: u32, room: usize) {
+    let reads = format!("{room:#x}");
+    let begin = Instant::now();
+    while begin.elapsed() < Duration::from_secs(5) {
+        let Ok(call) = fs::read_to_string(format!("/proc/{process}/syscall")) else {
+            return thread::sleep(Duration::from_millis(300));
+        };
+        let words: Vec<&str> = call.split(' ').collect();
+        // the number of the call, the descriptor, where to, how many
+        if words.len() > 3 && words[..2] == ["0", "0x0"] && words[3] == reads {
+            return;
+        }
+        thread::sleep(Duration::from_micros(200));
+    }
+}
+
+/// Two ends: what is written at the first is read at the second. When the first
+/// is dropped, the next read at the second fails, once, and those after it say
+/// that the input has ended.
+type Line = (Box<dyn Write>, OwnedFd);
+
+/// A socket that is closed while bytes wait in it to be read resets the other.
+fn reset_pair() -> Line {
+    let (near, mut far) = UnixStream::pair().expect("a pair of sockets");
+    far.write_all(b"unread").expect("room");
+    (Box::new(near), far.into())
+}
+
+/// The same by TCP.
+fn reset_connection() -> Line {
+    let listener = TcpListener::bind("127.0.0.1:0").expect("a port");
+    let place = listener.local_addr().expect("bound");
+    let mut far = TcpStream::connect(place).expect("a listener");
+    let (near, _) = listener.accept().expect("a connection");
+    far.write_all(b"unread").expect("room");
+    near.peek(&mut [0]).expect("bytes to be read");
+    (Box::new(near), far.into())
+}
+
+/// A terminal whose controlling side is closed is hung up.
+fn terminal() -> Line {
+    let (near, far) = open_terminal().expect("a pseudo-terminal");
+    (Box::new(near), far.into())
+}
+
+extern "C" {
+    fn grantpt(near: c_int) -> c_int;
+    fn unlockpt(near: c_int) -> c_int;
+    fn ptsname_r(near: c_int, name: *mut c_char, room: usize) -> c_int;
+    fn tcgetattr(far: c_int, settings: *mut Settings) -> c_int;
+    fn cfmakeraw(settings: *mut Settings);
+    fn tcsetattr(far: c_int, when: c_int, settings: *const Settings) -> c_int;
+}
+
+/// As much room as C's `struct termios` has, and more.
+type Settings = [u64; 16];
+
+/// Both sides of a new terminal through which every byte passes as it is.
+fn open_terminal() -> io::Result<(File, File)> {
+    // neither side becomes the terminal of this process, and a program that is
+    // started gets neither but as its input
+    const O_NOCTTY: c_int = 0o400;
+    let mut side = OpenOptions::new();
+    side.read(true).write(true).custom_flags(O_NOCTTY);
+    let near = side.open("/dev/ptmx")?;
+    let mut name: [c_char; 64] = [0; 64];
+    let mut settings: Settings = [0; 16];
+    // each call is handed a descriptor that is open, and lists of the length
+    // that it may write
+    unsafe {
+        done(grantpt(near.as_raw_fd()))?;
+        done(unlockpt(near.as_raw_fd()))?;
+        done(ptsname_r(near.as_raw_fd(), name.as_mut_ptr(), name.len()))?;
+        let far = side.open(CStr::from_ptr(name.as_ptr()).to_str().expect("a path"))?;
+        done(tcgetattr(far.as_raw_fd(), &mut settings))?;
+        cfmakeraw(&mut settings);
+        done(tcsetattr(far.as_raw_fd(), 0, &settings))?;
+        Ok((near, far))
+    }
+}
+
+/// What a call of the C library says: 0 where it has done what it was asked.
+fn done(answer: c_int) -> io::Result<()> {
+    match answer {
+        0 => Ok(()),
+        _ => Err(io::Error::last_os_error()),
+    }
+}
+
+/// Breaks the lines of each reading wherever it says.
+fn break_all(line: fn() -> Line, what: &str) {
+    let mut count = 0;
+    for reading in [planlist_reading(), planreplay_reading()] {
+        for places in &reading.breaks {
+            let got = places.last().copied().unwrap_or(0);
+            reading.expect_broken(got, reading.run(line(), places));
+            count += 1;
+        }
+    }
+    report(count, what);
+}
+
+#[test]
+fn a_socket_that_is_reset_has_not_ended() {
+    break_all(reset_pair, "sockets that were reset");
+}
+
+#[test]
+fn a_connection_that_is_reset_has_not_ended() {
+    break_all(reset_connection, "connections that were reset");
+}
+
+#[test]
+fn a_terminal_that_is_hung_up_has_not_ended() {
+    break_all(terminal, "terminals that were hung up");
+}
+
+/// The lines above fail as they say: an error once, and then the end.
+#[test]
+fn a_broken_line_fails_once() {
+    for line in [reset_pair, reset_connection] {
+        let (mut near, far) = line();
+        near.write_all(b"abc").expect("a reader");
+        drop(near);
+        let mut far = File::from(far);
+        let mut bytes = [0; 8];
+        assert_eq!(far.read(&mut bytes).expect("bytes"), 3);
+        let error = far.read(&mut bytes).expect_err("a reset");
+        assert_eq!(error.kind(), io::ErrorKind::ConnectionReset);
+        assert_eq!(far.read(&mut bytes).expect("the end"), 0);
+    }
+}
+
+/// The same lines, ended and not broken, are read whole.
+#[test]
+fn a_socket_that_ends_is_read_whole() {
+    for reading in [planlist_reading(), planreplay_reading()] {
+        for places in [vec![reading.input.len()], vec![100, reading.input.len()]] {
+            let (near, far) = UnixStream::pair().expect("a pair of sockets");
+            let written = reading.run((Box::new(near), far.into()), &places);
+            assert_eq!(written.errors, "", "{}", reading.name);
+            assert!(written.text == reading.text, "{}", reading.name);
+        }
+    }
+    report(4, "sockets that ended");
+}
+
+/// A read that would have to wait, where the input is set not to, fails each
+/// time, and the other side is still open.
+#[test]
+fn a_read_that_would_wait_is_no_end() {
+    let mut count = 0;
+    for reading in [planlist_reading(), planreplay_reading()] {
+        for places in &reading.breaks {
+            let got = places.last().copied().unwrap_or(0);
+            let (mut near, far) = UnixStream::pair().expect("a pair of sockets");
+            near.write_all(&reading.input[..got]).expect("room");
+            far.set_nonblocking(true).expect("a socket");
+            let input = Stdio::from(OwnedFd::from(far));
+            let child = start(&reading.program, input, Stdio::piped());
+            reading.expect_broken(got, written_by(child));
+            count += 1;
+        }
+    }
+    report(count, "inputs that would have to wait");
+}
+
+/// Where the first read fails there is no input, which is not an empty one: a
+/// folder is open and cannot be read, standard input may be open for writing
+/// only, or not at all.
+#[test]
+fn an_input_that_cannot_be_read_is_told() {
+    for reading in [planlist_reading(), planreplay_reading()] {
+        let folder = File::open("/").expect("a folder");
+        let sink = File::create("/dev/null").expect("/dev/null");
+        for input in [folder, sink] {
+            let child = start(&reading.program, Stdio::from(input), Stdio::piped());
+            reading.expect_broken(0, written_by(child));
+        }
+        let mut closed = Command::new("sh");
+        closed
+            .args(["-c", "exec \"$0\" <&-"])
+            .arg(&reading.program)
+            .stdout(Stdio::piped())
+            .stderr(Stdio::piped());
+        reading.expect_broken(0, written_by(closed.spawn().expect("sh")));
+    }
+    report(6, "inputs that could not be read");
+}
