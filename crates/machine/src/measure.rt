@@ -40,7 +40,7 @@ pub fn moves_of(b: Block) -> Axes
 }
 
 // Length: the root of the sum of the squared moves, µm.
-pub fn length_of(m: Axes) -> u64
+fn length_of(m: Axes) -> u64
     requires { ⌜ AxesBelow (2 ^ 20) m ⌝ }
     ensures { λ r. ⌜ r ≡ lengthFrom m ⌝ }
 {
