@@ -22,7 +22,7 @@ pub const UNIT: u64 = 1;
 // Percent of the acceleration that the motors give at each speed step.
 const TORQUE: [u8; 8] = [100, 100, 90, 80, 70, 60, 50, 40];
 
-// Greatest speed of a torque step, µm/s.
+// Width of a torque step, µm/s: the first ends at this speed.
 const TORQUE_STEP: u64 = 125_000;
 
 // The moves of a block without their signs, µm.

@@ -1,4 +1,4 @@
-// One record: 16 bytes, read and written as two words.
+// One record: 16 bytes, read and written as two words, alone or in its place on a tape.
 ghost use mathlib.Core.Path.{_≡_};
 ghost use Prim.Native.Nat.{_+_, _*_, _/_, _%_, _^_, _<_, _≤_, min};
 ghost use lib.ListN.{length};
