@@ -25,7 +25,7 @@ pub fn less(a: u64, b: u64) -> u64
 }
 
 // 2 to the power k.
-pub fn pow2(k: u64) -> u64
+pub(crate) fn pow2(k: u64) -> u64
     requires { ⌜ k < 64 ⌝ }
     ensures { λ r. ⌜ r ≡ 2 ^ k ⌝ }
 {

@@ -1,6 +1,7 @@
-// Bit fields packed in bytes without gaps, most significant bit first, at any bit and of any width. Bit 0 is the highest bit
-// of byte 0. Shifts and masks are written as products, quotients and remainders of powers of two, which the compiler makes
-// shifts and masks of again. Nothing here knows what a field means.
+// Bit fields packed in bytes without gaps, most significant bit first, at any bit. Bit 0 is the highest bit of byte 0. The
+// definitions and their laws hold for any width; one call reads or writes a field of at most 57 bits, or a word of 64. Shifts
+// and masks are written as products, quotients and remainders of powers of two, which the compiler makes shifts and masks of
+// again. Nothing here knows what a field means.
 
 ghost use mathlib.Core.Path.{_≡_};
 ghost use Prim.Native.Nat.{_+_, _*_, _^_, _<_, _≤_};

@@ -1,4 +1,4 @@
--- Document 01, "Numbers on the display": refusals 1 to 6.
+-- Document 01, "Numbers on the display": the number of each refusal, and when 1 to 6 are given.
 use Prim.Native.Nat.{ℕ, max}
 use mathlib.Core.Bool.{Bool, true, false, not, _&&_}
 use lib.Dec.{leb, ltb, eqb}

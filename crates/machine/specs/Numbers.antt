@@ -25,7 +25,8 @@ unit = 1
 abbrev pub AxesBelow : (bound : ℕ) → Axes → Type 0
 AxesBelow bound a = (a .x < bound) × (a .y < bound) × (a .z < bound)
 
--- every limit is below 2^32: with less than that no product of a block's numbers passes 64 bits
+-- every limit is below 2^32: then each product that is formed in one word fits 64 bits. J × J × P and 8 × E × R × 10^12, which
+-- have up to 82 and 77 bits within the ranges, are never formed in one: they go to the capped quotient as two factors
 abbrev pub LimitsBelow : Limits → Type 0
 LimitsBelow l = AxesBelow (2 ^ 32) (l .accel) × AxesBelow (2 ^ 32) (l .speed) × (l .jump < 2 ^ 32) × (l .chord < 2 ^ 32) × (l .tick < 2 ^ 32)
 

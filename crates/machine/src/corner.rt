@@ -47,7 +47,7 @@ pub fn under_corner(cap: u64, jump: u64, a: Block, length_a: u64, b: Block, leng
 }
 
 // The junction cap between two blocks that pass 2 to 6, (µm/s)².
-pub fn junction_cap(l: Limits, a: Block, b: Block) -> u64
+pub(crate) fn junction_cap(l: Limits, a: Block, b: Block) -> u64
     requires { ⌜ LimitsBelow l × (blockRefusal a ≡ 0) × (blockRefusal b ≡ 0) ⌝ }
     ensures { λ r. ⌜ r ≡ junctionCap l a b ⌝ }
 {

@@ -4,7 +4,6 @@ pub mod answer;
 pub mod check;
 pub mod corner;
 pub mod measure;
-pub mod ramps;
 
 // A quantity of each axis.
 pub struct Axes {

@@ -22,7 +22,7 @@ pub const UNIT: u64 = 1;
 // Percent of the acceleration that the motors give at each speed step.
 const TORQUE: [u8; 8] = [100, 100, 90, 80, 70, 60, 50, 40];
 
-// Greatest speed of a torque step, µm/s.
+// Width of a torque step, µm/s: the first ends at this speed.
 const TORQUE_STEP: u64 = 125_000;
 
 // The moves of a block without their signs, µm.
@@ -40,7 +40,7 @@ pub fn moves_of(b: Block) -> Axes
 }
 
 // Length: the root of the sum of the squared moves, µm.
-pub fn length_of(m: Axes) -> u64
+fn length_of(m: Axes) -> u64
     requires { ⌜ AxesBelow (2 ^ 20) m ⌝ }
     ensures { λ r. ⌜ r ≡ lengthFrom m ⌝ }
 {

@@ -41,7 +41,7 @@ use machine::check::check_block;
 use machine::check::check_limits;
 use machine::corner::under_corner;
 use machine::measure::numbers;
-use machine::ramps::ramp_between;
+use ramps::ramp_between;
 
 // Lengths of held blocks are used below this, µm.
 const LENGTH_END: u64 = 0x4000_0000;

@@ -10,7 +10,7 @@ use Rattle.fields.specs.Bytes.{numberOf, bytesOf, withBytes}
 use Rattle.fields.specs.Signed.{signedOf, bitsOf}
 use Rattle.machine.specs.Checks.{limitsRefusal, limitsWithin, blockRefusal, greatestMove}
 use Rattle.tape.specs.Tape.{limitsAt, zeroBits, blockNumber, blockAt, blocksFrom, tapeBlocks}
-use Rattle.tape.specs.Display.{given, refused, _at_, limitsFault, limitsReadRefusal, readLimits, recordReadRefusal, readRecord, recordWriteRefusal, recordWritten, faultFrom, headRefusal, tapeFault, checkTape}
+use Rattle.tape.specs.Display.{given, refused, _at_, limitsFault, limitsReadRefusal, readLimits, recordReadRefusal, readRecord, recordWriteRefusal, recordWritten, tapeWriteRefusal, tapeWritten, faultFrom, headRefusal, tapeFault, checkTape}
 
 -- machine M
 machine : List ℕ
@@ -70,3 +70,16 @@ short = refl
 still-first : recordWriteRefusal (record { x = pos 0; y = pos 0; z = pos 0; feed = 20000; radius = 0; mark = 7 }) (replicate 15 255) ≡ 2
 unfolding recordWriteRefusal blockRefusal greatestMove
 still-first = refl
+
+-- writing record 1 of a tape of two: the limits and record 0 stay; record 2 begins where this tape ends, and no place is too far
+replaced : tapeWritten (record { x = pos 0; y = negsuc 999; z = pos 0; feed = 20000; radius = 1000; mark = 8 }) 1 (machine ++ seven ++ far) ≡ machine ++ seven ++ eight
+unfolding machine seven eight far tapeWritten recordWritten recordWriteRefusal blockRefusal greatestMove blockNumber bitsOf withBytes bytesOf split joined
+replaced = refl
+
+behind : tapeWriteRefusal (record { x = pos 1000; y = pos 0; z = pos 0; feed = 20000; radius = 0; mark = 7 }) 2 (machine ++ seven ++ far) ≡ 9
+unfolding machine seven far tapeWriteRefusal recordWriteRefusal blockRefusal greatestMove
+behind = refl
+
+beyond : tapeWriteRefusal (record { x = pos 1000; y = pos 0; z = pos 0; feed = 20000; radius = 0; mark = 7 }) 18446744073709551615 machine ≡ 9
+unfolding machine tapeWriteRefusal recordWriteRefusal blockRefusal greatestMove
+beyond = refl

@@ -5,12 +5,15 @@ use native.Mathlib.Nat.{add-zero, zero-add, le-of-eq}
 use native.Mathlib.Numerals.{add-one}
 use native.Mathlib.Omega.{arith}
 use mathlib.Core.List.{List, _∷_}
-use lib.ListN.{length, take, drop, length-drop, drop-of-length-le}
-use lib.Seq.{take-all}
+use lib.ListN.{length, take, drop, getD, length-take, length-drop, drop-of-length-le}
+use lib.Seq.{take-all, getD-drop}
 use Rattle.machine.specs.Checks.{blockRefusal}
-use Rattle.tape.specs.Tape.{blockAt, recordStart, recordAt, recordsIn, blocksFrom, tapeBlocks}
-use Rattle.tape.specs.Display.{Fault, _at_, _else_, faultFrom, headRefusal, tapeFault, tapeRefusal}
-use Rattle.tape.proofs.Answers.{at-zero, above-zero}
+use Rattle.machine.specs.declared.Block.{Block}
+use Rattle.tape.specs.Tape.{recordBytes, blockAt, recordStart, recordAt, recordsIn, blocksFrom, tapeBlocks}
+use Rattle.tape.specs.Display.{given, refused, recordReadRefusal, readRecord, Fault, _at_, _else_, faultFrom, headRefusal, tapeFault, tapeRefusal}
+use Rattle.tape.proofs.Answers.{at-zero, above-zero, refused-is}
+use Rattle.tape.proofs.Checks.{record-long}
+use Rattle.tape.proofs.Trips.{record-taken}
 
 -- Blocks from record j on: how many, and the one that k records later begins the rest.
 length-from : (s : List ℕ) (k n : ℕ) → length (blocksFrom s k n) ≡ n
@@ -52,9 +55,29 @@ module _ (s : List ℕ) where
   unfolding tapeBlocks
   drop-blocks {k} h = rw (add-one k) (drop-from s 0 h ∙ ap (λ (i : ℕ). recordAt s i ∷ drop (suc k) (blocksFrom s 0 (recordsIn s))) (zero-add k))
 
-  -- The part of a tape that begins at record k says that record.
-  pub part-record : (k : ℕ) → blockAt (take (length s - recordStart k) (drop (recordStart k) s)) ≡ recordAt s k
+  -- Block k is that of record k.
+  pub getD-blocks : {k : ℕ} (d : Block) → k < recordsIn s → getD (tapeBlocks s) k d ≡ recordAt s k
+  getD-blocks {k} d h =
+      ap (λ (i : ℕ). getD (tapeBlocks s) i d) (sym (add-zero k)) ∙ sym (getD-drop k (tapeBlocks s) 0 d)
+      ∙ ap (λ (t : List Block). getD t 0 d) (drop-blocks h)
+
+  -- The part of a tape that begins at record k, as code lends it, says that record.
+  abbrev pub partAt : ℕ → List ℕ
+  partAt k = take (length s - recordStart k) (drop (recordStart k) s)
+
+  pub part-record : (k : ℕ) → blockAt (partAt k) ≡ recordAt s k
   part-record k = ap blockAt (take-all (length s - recordStart k) (drop (recordStart k) s) (le-of-eq (length-drop (recordStart k) s)))
+
+  -- Reading it gives that record, which passes, or its refusal.
+  pub part-given : (k : ℕ) {b : Block} → readRecord (partAt k) ≡ given b → (recordAt s k ≡ b) × (blockRefusal b ≡ 0)
+  part-given k e = let t = record-taken (partAt k) e in (sym (part-record k) ∙ t .1 .0, t .1 .1)
+
+  pub part-refused : {k n : ℕ} → k < recordsIn s → readRecord (partAt k) ≡ refused n → (0 < n) × (blockRefusal (recordAt s k) ≡ n)
+  unfolding readRecord
+  part-refused {k} h e =
+      let r = refused-is (blockAt (partAt k)) (recordReadRefusal (partAt k)) (recordReadRefusal (partAt k)) (sym e) in
+      let long : recordBytes ≤ length (partAt k) = simp (length-take, length-drop) (omega arith) in
+      (rw (← r .1) at (r .0), ap blockRefusal (sym (part-record k)) ∙ sym (record-long (partAt k) long) ∙ sym (r .1))
 
   -- The records before record k have passed: the fault of all is that of the others.
   abbrev pub PassedBefore : ℕ → Type 0

@@ -6,4 +6,5 @@ pub mod Words
 pub mod Stored
 pub mod Trips
 pub mod Faults
+pub mod Written
 mod Cases

@@ -2,15 +2,15 @@
 use Prim.Native.Nat.{ℕ, zero, suc, _-_, _%_}
 use mathlib.Core.Path.{_≡_}
 use mathlib.Core.Bool.{_||_, not}
-use mathlib.Core.List.{List, [], _∷_}
+use mathlib.Core.List.{List, [], _∷_, _++_}
 use lib.Dec.{ltb, eqb}
-use lib.ListN.{length}
+use lib.ListN.{length, take, drop}
 use Rattle.fields.specs.Bytes.{withBytes}
 use Rattle.machine.specs.Checks.{pick, refusalNumber, checkedNumber, limitsRefusal, blockRefusal}
 use Rattle.machine.specs.declared.Limits.{Limits}
 use Rattle.machine.specs.declared.Block.{Block}
 use Rattle.machine.specs.declared.Checked.{Checked}
-use Rattle.tape.specs.Tape.{limitsBytes, limitsNumber, limitsAt, zeroBits, recordBytes, blockNumber, blockAt, recordsIn, tapeBlocks}
+use Rattle.tape.specs.Tape.{limitsBytes, limitsNumber, limitsAt, zeroBits, recordBytes, blockNumber, blockAt, recordStart, recordsIn, tapeBlocks}
 use Rattle.tape.specs.declared.LimitsRead.{LimitsRead}
 use Rattle.tape.specs.declared.LimitsRead.the-variants as limits
 use Rattle.tape.specs.declared.RecordRead.{RecordRead}
@@ -56,6 +56,13 @@ limitsWritten l s = byNumber (limitsWriteRefusal l s) (withBytes s 0 limitsBytes
 
 unfoldable pub recordWritten : Block → List ℕ → List ℕ
 recordWritten b s = byNumber (recordWriteRefusal b s) (withBytes s 0 recordBytes (blockNumber b)) s
+
+-- writing record k of a tape, k counted from 0: the same of the part that begins at that record, and the bytes before it stay
+unfoldable pub tapeWriteRefusal : Block → (k : ℕ) → List ℕ → ℕ
+tapeWriteRefusal b k s = recordWriteRefusal b (drop (recordStart k) s)
+
+unfoldable pub tapeWritten : Block → (k : ℕ) → List ℕ → List ℕ
+tapeWritten b k s = take (recordStart k) s ++ recordWritten b (drop (recordStart k) s)
 
 -- a writer answers r, whose number is n, and leaves the lent bytes as t
 pub record Wrote (n : ℕ) (t : List ℕ) (r : Checked) (left : List ℕ) : Type 0 where

@@ -1,12 +1,13 @@
-// One record: 16 bytes, read and written as two words.
+// One record: 16 bytes, read and written as two words, alone or in its place on a tape.
 ghost use mathlib.Core.Path.{_≡_};
-ghost use Prim.Native.Nat.{_+_, _*_, _/_, _%_, _^_, _<_, _≤_};
+ghost use Prim.Native.Nat.{_+_, _*_, _/_, _%_, _^_, _<_, _≤_, min};
 ghost use lib.ListN.{length};
 ghost use Rattle.fields.specs.Layouts.{InWidths};
 ghost use Rattle.fields.specs.Bytes.{withBytes};
 ghost use Rattle.fields.specs.Fields.{Bits};
-ghost use Rattle.tape.specs.Tape.{blockAt, blockFields, blockNumber, recordBytes, recordLayout};
-ghost use Rattle.tape.specs.Display.{readRecord, recordAnswer, recordWriteRefusal, recordWritten, Wrote};
+ghost use Rattle.tape.specs.Tape.{blockAt, blockFields, blockNumber, recordBytes, recordLayout, recordStart};
+ghost use Rattle.tape.specs.Display.{readRecord, recordAnswer, recordWriteRefusal, recordWritten, tapeWriteRefusal, tapeWritten, Wrote};
+use crate::LIMITS_BYTES;
 use crate::RECORD_BYTES;
 use crate::RecordRead;
 use machine::Block;
@@ -100,4 +101,29 @@ pub fn write_record(b: Block, out: &mut [u8]) -> Checked
             Checked::Passed
         }
     }
+}
+
+// The byte at which record k of a tape begins, k counted from 0; the end of the tape where it ends before that. No k is too
+// large: the byte is worked out only where it lies in the tape.
+fn start_within(k: usize, bytes: usize) -> usize
+    ensures { λ r. ⌜ r ≡ min (recordStart k) bytes ⌝ }
+{
+    if bytes / RECORD_BYTES < k {
+        return bytes;
+    }
+    let behind = RECORD_BYTES * k;
+    if bytes - behind < LIMITS_BYTES {
+        return bytes;
+    }
+    LIMITS_BYTES + behind
+}
+
+// Writes a block as record k of a tape, k counted from 0: the writer of a record is lent the part that begins at byte
+// 24 + 16 × k, which is empty where the tape ends before that. Only the record's 16 bytes change. 2 to 6 come first, then 9
+// where the tape ends before the record does.
+pub fn write_record_at(b: Block, tape: &mut [u8], k: usize) -> Checked
+    ensures { λ r. ⌜ Wrote (tapeWriteRefusal b k (now (tape .entry))) (tapeWritten b k (now (tape .entry))) r (now (tape .exit)) ⌝ }
+{
+    let from = start_within(k, tape.len());
+    write_record(b, &mut tape[from..])
 }

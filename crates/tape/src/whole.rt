@@ -8,12 +8,11 @@ use crate::LIMITS_BYTES;
 use crate::LimitsRead;
 use crate::MOST_BYTES;
 use crate::RECORD_BYTES;
+use crate::RecordRead;
 use crate::TapeCheck;
 use crate::limits::read_limits;
-use crate::records::decode_record;
-use machine::Checked;
+use crate::records::read_record;
 use machine::Refusal;
-use machine::check::check_block;
 
 // The limits of a whole tape, by the checks that come before its records: 10, 9, 1.
 pub fn read_head(s: &[u8]) -> LimitsRead
@@ -31,7 +30,7 @@ pub fn read_head(s: &[u8]) -> LimitsRead
     read_limits(s)
 }
 
-// Checks each record in turn; each is decoded once.
+// Checks each record in turn. Each lies whole in the tape, so that reading one is never refused by 9.
 fn check_records(s: &[u8]) -> TapeCheck
     requires { ⌜ limitsBytes ≤ length (now s) ⌝ }
     ensures { λ r. ⌜ tapeAnswer r ≡ checkRecords (now (s .entry)) ⌝ }
@@ -40,8 +39,7 @@ fn check_records(s: &[u8]) -> TapeCheck
     let mut k: usize = 0;
     while k < n {
         let from = LIMITS_BYTES + RECORD_BYTES * k;
-        let b = decode_record(&s[from..]);
-        if let Checked::Refused(why) = check_block(b) {
+        if let RecordRead::Refused(why) = read_record(&s[from..]) {
             return TapeCheck::Refused(why, k + 1);
         }
         k += 1;

@@ -5,8 +5,9 @@
 // These are stored at the beginning of one buffer; its other bytes stay as the case before left
 // them, so that a long tape is given once.
 //
-// Kind 0 reads limits, 1 reads a record, 2 writes limits, 3 writes a record, any other checks a
-// whole tape. Where bytes are written, the line ends with all lent bytes as they then are.
+// Kind 0 reads limits, 1 reads a record, 2 writes limits, 3 writes a record, 5 writes record k of a
+// tape, where k is the seventh value, and any other checks a whole tape. Where bytes are written,
+// the line ends with all lent bytes as they then are.
 ghost use Prim.Native.Nat.{_<_};
 use libc::STDIN_FILENO;
 use libc::STDOUT_FILENO;
@@ -183,6 +184,11 @@ fn write_record(b: Block, bytes: &mut [u8]) {
     say_written(answer, bytes);
 }
 
+fn write_record_at(b: Block, bytes: &mut [u8], k: usize) {
+    let answer = tape::records::write_record_at(b, bytes, k);
+    say_written(answer, bytes);
+}
+
 // The call of a case that only reads the lent bytes.
 fn answer_read(kind: u64, bytes: &[u8]) {
     match kind {
@@ -201,6 +207,10 @@ fn answer(head: &[u8; HEAD], bytes: &mut [u8]) {
     }
     if kind == 3 {
         write_record(block_of(head), bytes);
+        return;
+    }
+    if kind == 5 {
+        write_record_at(block_of(head), bytes, word(head, 9) as usize);
         return;
     }
     answer_read(kind, bytes);

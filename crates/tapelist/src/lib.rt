@@ -21,7 +21,7 @@ use machine::Limits;
 use machine::Refusal;
 use machine::check::refusal_number;
 use machine::measure::numbers;
-use machine::ramps::ramp_between;
+use ramps::ramp_between;
 use tape::LIMITS_BYTES;
 use tape::LimitsRead;
 use tape::MOST_BYTES;

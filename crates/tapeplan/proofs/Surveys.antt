@@ -2,11 +2,9 @@
 use mathlib.Core.Path.{_≡_, sym, ap, _∙_}
 use mathlib.Core.List.{List}
 use Prim.Native.Nat.{ℕ, zero, suc, _+_, _-_, _≤_, _<_}
-use native.Mathlib.Nat.{add-zero}
 use native.Mathlib.Omega.{arith}
 use lib.Dec.{eqb, eqb·suc-zero}
-use lib.ListN.{length, getD, take, set}
-use lib.Seq.{getD-drop}
+use lib.ListN.{length, take, set}
 use Rattle.profile.specs.Line.{Step, capAt, reachAt}
 use Rattle.machine.specs.Checks.{pick, blockRefusal}
 use Rattle.machine.specs.Numbers.{junctionCap, numbersOf, reachOf}
@@ -16,7 +14,7 @@ use Rattle.machine.specs.declared.Limits.{Limits}
 use Rattle.machine.specs.declared.Numbers.{Numbers}
 use Rattle.machine.proofs.Steps.{steps-length, steps-first, steps-cap, steps-reach}
 use Rattle.tape.specs.Tape.{recordAt, recordsIn, tapeBlocks}
-use Rattle.tape.proofs.Faults.{length-blocks, drop-blocks, PassedBefore, passed-next}
+use Rattle.tape.proofs.Faults.{length-blocks, getD-blocks, PassedBefore, passed-next}
 use Rattle.tapeplan.specs.Lent.{lineOf}
 use Rattle.tapeplan.proofs.Filled.{Filled, filled-more, filled-line}
 
@@ -24,14 +22,10 @@ module _ (l : Limits) (s : List ℕ) where
   abbrev steps : List Step
   steps = stepsOf l (tapeBlocks s)
 
-  -- block k of the tape is that of record k
-  block-is : (k : ℕ) → k < recordsIn s → getD (tapeBlocks s) k (recordAt s 0) ≡ recordAt s k
-  block-is k h = sym (ap (λ (i : ℕ). getD (tapeBlocks s) i (recordAt s 0)) (add-zero k)) ∙ sym (getD-drop k (tapeBlocks s) 0 (recordAt s 0)) ∙ ap (λ (t : List Block). getD t 0 (recordAt s 0)) (drop-blocks s h)
-
   -- the cap where a block after the first begins, and that of any block by the block before it
   pub cap-next : (k : ℕ) → suc k < recordsIn s → junctionCap l (recordAt s k) (recordAt s (suc k)) ≡ capAt steps (suc k)
   cap-next k h =
-      (λ i. junctionCap l (sym (block-is k (omega arith)) i) (sym (block-is (suc k) h) i))
+      (λ i. junctionCap l (sym (getD-blocks s {k = k} (recordAt s 0) (omega arith)) i) (sym (getD-blocks s (recordAt s 0) h) i))
       ∙ sym (steps-cap (recordAt s 0) l (tapeBlocks s) k (omega (arith, length-blocks s)))
 
   cap-is : (k : ℕ) (before : Block) → k < recordsIn s → (0 < k → before ≡ recordAt s (k - 1)) → pick (eqb k 0) 0 (junctionCap l before (recordAt s k)) ≡ capAt steps k
@@ -44,7 +38,7 @@ module _ (l : Limits) (s : List ℕ) where
 
   -- its reach
   pub reach-is : (k : ℕ) → k < recordsIn s → reachOf l (recordAt s k) ≡ reachAt steps k
-  reach-is k h = sym (steps-reach (recordAt s 0) l (tapeBlocks s) k (omega (arith, length-blocks s)) ∙ ap (reachOf l) (block-is k h))
+  reach-is k h = sym (steps-reach (recordAt s 0) l (tapeBlocks s) k (omega (arith, length-blocks s)) ∙ ap (reachOf l) (getD-blocks s (recordAt s 0) h))
 
   -- the first k records have passed, and the lists have their caps and reaches
   pub record Surveying (caps reaches : List ℕ) (before : Block) (known : Numbers) (k : ℕ) : Type 0 where

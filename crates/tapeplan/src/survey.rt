@@ -7,15 +7,14 @@ ghost use Rattle.tape.specs.Tape.{limitsBytes, recordsIn};
 ghost use Rattle.tapeplan.specs.Survey.{Surveyed};
 use crate::junctions::cap_of;
 use machine::Block;
-use machine::Checked;
 use machine::Limits;
 use machine::Numbers;
-use machine::check::check_block;
 use machine::measure::numbers;
 use tape::LIMITS_BYTES;
 use tape::RECORD_BYTES;
+use tape::RecordRead;
 use tape::TapeCheck;
-use tape::records::decode_record;
+use tape::records::read_record;
 
 // Checks each record in turn and fills the lists with the caps and the reaches of the blocks.
 pub fn survey(s: &[u8], l: Limits, caps: &mut [u64], reaches: &mut [u64]) -> TapeCheck
@@ -40,10 +39,10 @@ pub fn survey(s: &[u8], l: Limits, caps: &mut [u64], reaches: &mut [u64]) -> Tap
     let mut k: usize = 0;
     while k < n {
         let from = LIMITS_BYTES + RECORD_BYTES * k;
-        let b = decode_record(&s[from..]);
-        if let Checked::Refused(why) = check_block(b) {
-            return TapeCheck::Refused(why, k + 1);
-        }
+        let b = match read_record(&s[from..]) {
+            RecordRead::Refused(why) => return TapeCheck::Refused(why, k + 1),
+            RecordRead::Read(b) => b,
+        };
         let m = numbers(l, b);
         caps[k] = cap_of(k, l, before, known, b, m);
         reaches[k] = m.reach;

@@ -120,6 +120,16 @@ pub fn write_record(block: &Block, part: &mut [u8]) -> Result<(), Refusal> {
     store(&pack_record(block), part)
 }
 
+/// Writes record k of a tape, k counted from 0: checks 2 to 6, then 9 where the
+/// tape ends before the record does.
+pub fn write_record_at(block: &Block, tape: &mut [u8], k: u64) -> Result<(), Refusal> {
+    check_block(block)?;
+    let from = LIMITS_BYTES as u128 + RECORD_BYTES as u128 * u128::from(k);
+    let begins = usize::try_from(from).map_err(|_| Refusal::Ragged)?;
+    let part = tape.get_mut(begins..).ok_or(Refusal::Ragged)?;
+    write_record(block, part)
+}
+
 /// Copies `bytes` to the begin of `part`, or refuses by 9.
 fn store(bytes: &[u8], part: &mut [u8]) -> Result<(), Refusal> {
     let own = part.get_mut(..bytes.len()).ok_or(Refusal::Ragged)?;

@@ -9,8 +9,8 @@ use crate::refusal::Refusal;
 use crate::rng::Rng;
 use crate::tape::{
     pack_limits, pack_record, read_limits, read_record, read_tape, unpack_limits, unpack_record,
-    write_limits, write_record, Tape, LIMITS_BYTES, MOST_BLOCKS, MOST_BYTES, MOVE_BITS,
-    RECORD_BYTES, ZERO_BITS,
+    write_limits, write_record, write_record_at, Tape, LIMITS_BYTES, MOST_BLOCKS, MOST_BYTES,
+    MOVE_BITS, RECORD_BYTES, ZERO_BITS,
 };
 
 /// Bytes of the buffer of which every case lends the first ones.
@@ -34,14 +34,16 @@ pub enum Kind {
     WriteLimits = 2,
     WriteRecord = 3,
     Check = 4,
+    WriteRecordAt = 5,
 }
 
-const KINDS: [Kind; 5] = [
+const KINDS: [Kind; 6] = [
     Kind::ReadLimits,
     Kind::ReadRecord,
     Kind::WriteLimits,
     Kind::WriteRecord,
     Kind::Check,
+    Kind::WriteRecordAt,
 ];
 
 /// One call: what is stored at the buffer's begin, then the bytes lent.
@@ -88,6 +90,16 @@ impl Case {
         }
     }
 
+    /// The block written as record k, from 0, of a tape of `lent` filler bytes.
+    fn writing_at(block: &Block, k: u64, lent: usize) -> Case {
+        let mut words = block_words(block);
+        words[BLOCK_WORDS] = k;
+        Case {
+            words,
+            ..Case::reading(Kind::WriteRecordAt, &vec![FILLER; lent])
+        }
+    }
+
     /// The case as bytes: its head, most significant byte first, then what is
     /// stored.
     pub fn bytes(&self) -> Vec<u8> {
@@ -114,6 +126,10 @@ impl Case {
             }
             Kind::WriteRecord => {
                 let answer = write_record(&block_of(&self.words), part);
+                written(answer, part)
+            }
+            Kind::WriteRecordAt => {
+                let answer = write_record_at(&block_of(&self.words), part, self.words[BLOCK_WORDS]);
                 written(answer, part)
             }
             Kind::Check => match read_tape(part) {
@@ -223,6 +239,7 @@ pub fn cases() -> Vec<Case> {
     all.extend(short_tapes(&mut rng));
     all.extend(faulty_records(&mut rng));
     all.extend(long_tapes(&mut rng));
+    all.extend(records_written_at(&mut rng));
     all
 }
 
@@ -381,6 +398,25 @@ fn records_written(rng: &mut Rng) -> Vec<Case> {
         cases.push(Case::writing_record(&plain(), lent));
         let faulty = faulty_blocks(rng, false).into_iter().step_by(DRAWS);
         cases.extend(faulty.map(|block| Case::writing_record(&block, lent)));
+    }
+    cases
+}
+
+/// Records written in their place on a tape: 2 to 6 first, then 9 where the tape
+/// ends before the record does. Some k have their first byte beyond 64 bits.
+fn records_written_at(rng: &mut Rng) -> Vec<Case> {
+    let beyond = [1 << 59, (1 << 60) - 1, 1 << 60, u64::MAX];
+    let three = LIMITS_BYTES + 3 * RECORD_BYTES;
+    let mut cases = Vec::new();
+    for lent in [0, 23, 24, 39, 40, three - 1, three, three + 1] {
+        for k in [0, 1, 2, 3].into_iter().chain(beyond) {
+            cases.push(Case::writing_at(&plain(), k, lent));
+        }
+    }
+    for block in faulty_blocks(rng, false).into_iter().step_by(DRAWS) {
+        for k in [1, 3, 1 << 60] {
+            cases.push(Case::writing_at(&block, k, three));
+        }
     }
     cases
 }

@@ -50,6 +50,10 @@ fn every_refusal_of_each_call_occurs() {
         BTreeSet::from([2, 3, 4, 5, 6, 9])
     );
     assert_eq!(
+        refusals(Kind::WriteRecordAt),
+        BTreeSet::from([2, 3, 4, 5, 6, 9])
+    );
+    assert_eq!(
         refusals(Kind::Check),
         BTreeSet::from([1, 2, 3, 4, 5, 9, 10])
     );

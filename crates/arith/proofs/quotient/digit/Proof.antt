@@ -7,9 +7,6 @@ use Rattle.arith.proofs.Division.{twoDigits, half-product, first-try, d
 use borrow.Author.Needs.{needs}
 use Rattle.arith.proofs.quotient.digit.Statement.{statement}
 use Rattle.arith.proofs.quotient.digit.Tie as tie
-use Rattle.arith.proofs.quotient.digit.Reads as reads
-use Rattle.arith.proofs.quotient.digit.Lts as lts
-use Rattle.arith.proofs.whole.smaller.Reads as smaller-reads
 
 abbrev Inv-loop : tie.InvT-loop
 Inv-loop high low d q₀ q = (q < 2 ^ 32) × (q * (d / 2 ^ 32) ≤ high) × (twoDigits high low < (q + 1) * d)
@@ -26,19 +23,6 @@ lowered c =
     let a = c .before .before .before .before .args in
     digit-too-large (a .high) (a .low) (a .d) (c .before .before .loop .q) (c .before .before .loop .inv .1) (c .if2 .left)
 
--- src/quotient.rt:38:25
-div-smaller : tie.Need-div-smaller Inv-loop μ-loop
-div-smaller c = search needs
-
--- src/quotient.rt:38:44
-sub-smaller : tie.Need-sub-smaller Inv-loop μ-loop
-sub-smaller c = search needs
-
--- src/quotient.rt:38:9
-smaller-requires : tie.Need-smaller-requires Inv-loop μ-loop
-smaller-requires c κs = search needs
-
--- src/quotient.rt:39:5
 loop-holds : tie.Need-loop-holds Inv-loop μ-loop
 loop-holds c =
     let a = c .before .args in
@@ -48,46 +32,24 @@ loop-holds c =
       first-try (a .high) (a .low) (a .d) (c .before .pre .0) (c .before .pre .1) (c .before .pre .2),
     )
 
--- src/quotient.rt:40:27
-mul-left : tie.Need-mul-left Inv-loop μ-loop
-mul-left c = search needs
-
--- src/quotient.rt:40:20
-sub-left : tie.Need-sub-left Inv-loop μ-loop
-sub-left c = search needs
-
--- src/quotient.rt:44:12
 mul-if2 : tie.Need-mul-if2 Inv-loop μ-loop
 mul-if2 c = record { fits = omega (arith, half-product {x = c .before .loop .q} {y = c .before .before .before .args .d % 2 ^ 32} (omega arith) (omega arith)) }
 
--- src/quotient.rt:44:30
-mul-if2-2 : tie.Need-mul-if2-2 Inv-loop μ-loop
-mul-if2-2 c = search needs
-
--- src/quotient.rt:44:30
-add-if2 : tie.Need-add-if2 Inv-loop μ-loop
-add-if2 c = search needs
-
--- src/quotient.rt:47:9
 sub-q : tie.Need-sub-q Inv-loop μ-loop
 sub-q c = lowered c .0
 
--- src/quotient.rt:39:5
 loop-less : tie.Need-loop-less Inv-loop μ-loop
 loop-less c = omega (arith, lowered c .0)
 
--- src/quotient.rt:39:5
 loop-again : tie.Need-loop-again Inv-loop μ-loop
 loop-again c = (omega arith, lowered c .2, lowered c .1)
 
--- src/quotient.rt:34:1
 returns : tie.Need-returns Inv-loop μ-loop
 returns c =
     let a = c .before .before .before .args in
     let inv = c .before .loop .inv in
     sym (div-eq-of-lt-le (a .d) (digit-surely-fits (a .high) (a .low) (a .d) _ (inv .0) (inv .1) (c .if1 .taken)) (inv .2))
 
--- src/quotient.rt:34:1
 returns-2 : tie.Need-returns-2 Inv-loop μ-loop
 returns-2 c =
     let a = c .before .before .before .before .args in
@@ -100,15 +62,15 @@ digit-spec =
     (tie.spec
     Inv-loop
     μ-loop
-    div-smaller
-    sub-smaller
-    smaller-requires
+    (λ c. search needs)
+    (λ c. search needs)
+    (λ c κs. search needs)
     loop-holds
-    mul-left
-    sub-left
+    (λ c. search needs)
+    (λ c. search needs)
     mul-if2
-    mul-if2-2
-    add-if2
+    (λ c. search needs)
+    (λ c. search needs)
     sub-q
     loop-less
     loop-again

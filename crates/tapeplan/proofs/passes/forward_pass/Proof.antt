@@ -34,7 +34,7 @@ slice-write-list c = search needs
 loop-holds : tie.Need-loop-holds Inv-loop μ-loop
 loop-holds c = (
   search needs,
-  omega (arith, length-set (c .before .before .before .args .list .now) 0 0),
+  rw length-set (omega arith),
   in-place-first (lineOf (c .before .before .before .args .caps .now) (c .before .before .before .args .reaches .now)) (c .before .before .before .args .list .now) (c .before .before .before .pre .2 .sized) 0 zero-le (c .before .before .before .pre .2 .braked),
 )
 

@@ -1,25 +1,20 @@
 -- `tapeplan::survey::survey` meets its contract: before record k those before it are surveyed. From `survey-next`, `survey-all` and the tape's faults. Assumes nothing.
 use mathlib.Core.Path.{_≡_, refl, sym, ap, _∙_}
+use mathlib.Core.List.{List}
 use Prim.Native.Nat.{ℕ, _+_, _-_, _≤_, _<_}
 use native.Mathlib.Nat.{not-suc-le-zero}
 use native.Mathlib.Omega.{arith}
 use lib.ListN.{length, length-set}
-use Rattle.machine.specs.Checks.{blockRefusal, checkedNumber}
+use Rattle.machine.specs.Checks.{blockRefusal}
+use Rattle.machine.specs.declared.Block.{Block}
 use Rattle.tape.specs.Tape.{recordAt}
-use Rattle.tape.specs.Display.{Fault, _at_, checkRecords}
-use Rattle.machine.proofs.AnswerLaws.{refusal-above}
+use Rattle.tape.specs.Display.{recordAnswer, Fault, _at_, checkRecords}
 use Rattle.tape.proofs.Answers.{faulty, faultless}
-use Rattle.tape.proofs.Faults.{part-record, passed-none, fault-at, fault-none}
+use Rattle.tape.proofs.Faults.{part-given, part-refused, passed-none, fault-at, fault-none}
 use Rattle.tapeplan.proofs.Surveys.{Surveying, survey-next, survey-all}
 use borrow.Author.Needs.{needs}
 use Rattle.tapeplan.proofs.survey.survey.Statement.{statement}
 use Rattle.tapeplan.proofs.survey.survey.Tie as tie
-use Rattle.tapeplan.proofs.survey.survey.Reads as reads
-use Rattle.tapeplan.proofs.survey.survey.Lts as lts
-use Rattle.machine.proofs.check.check_block.Reads as check-block-reads
-use Rattle.machine.proofs.measure.numbers.Reads as numbers-reads
-use Rattle.tape.proofs.records.decode_record.Reads as decode-record-reads
-use Rattle.tapeplan.proofs.junctions.cap_of.Reads as cap-of-reads
 
 abbrev Inv-loop : tie.InvT-loop
 Inv-loop s l caps₀ reaches₀ n before₀ known₀ k₀ caps reaches before known k = (k ≤ n) × (length caps ≡ length caps₀) × (length reaches ≡ length reaches₀) × Surveying l s caps reaches before known k
@@ -27,128 +22,77 @@ Inv-loop s l caps₀ reaches₀ n before₀ known₀ k₀ caps reaches before kn
 abbrev μ-loop : tie.MeasureT-loop
 μ-loop s l caps₀ reaches₀ n before₀ known₀ k₀ caps reaches before known k = n - k
 
--- block k as the code has it
-record-is : (c : tie.After-decode-record Inv-loop μ-loop) → c .decode-record .result ≡ recordAt (c .before .before .before .before .before .before .before .args .s .now) (c .before .before .before .loop .k)
-record-is c =
-    let l = c .before .before .before in
-    c .decode-record .ensures ∙ part-record (l .before .before .before .before .args .s .now) (l .loop .k)
+-- a turn of the loop whose record is read
+module _ (c : tie.After-read-record Inv-loop μ-loop) where
+  abbrev turn : tie.At-loop Inv-loop μ-loop
+  turn = c .before .before .before
 
--- the refusal of record k, once it is checked
-number : (c : tie.After-check-block Inv-loop μ-loop) → blockRefusal (recordAt (c .before .before .before .before .before .before .before .before .args .s .now) (c .before .before .before .before .loop .k)) ≡ checkedNumber (c .check-block .result)
-number c = ap blockRefusal (sym (record-is (c .before))) ∙ sym (c .check-block .ensures)
+  abbrev start : tie.Start Inv-loop μ-loop
+  start = turn .before .before .before .before
 
-sub-n : tie.Need-sub-n Inv-loop μ-loop
-sub-n c = search needs
+  abbrev bytes : List ℕ
+  bytes = start .args .s .now
+
+  abbrev k : ℕ
+  k = turn .loop .k
+
+-- the record passes: it is block k, and the lists have a number for it
+module _ (c : tie.After-known-told2 Inv-loop μ-loop) where
+  abbrev read : tie.After-read-record Inv-loop μ-loop
+  read = c .before .before .before
+
+  abbrev block : Block
+  block = c .before .b .given .0 .0
+
+  passes : (recordAt (bytes read) (k read) ≡ block) × (blockRefusal block ≡ 0)
+  passes = part-given (bytes read) (k read) (sym (read .read-record .ensures) ∙ ap recordAnswer (c .before .b .given .1))
+
+  within : (k read < length (turn read .loop .caps)) × (k read < length (turn read .loop .reaches))
+  within =
+      let t = read .before .before .loop-test .taken in
+      let p = start read .pre in
+      (omega (arith, t, p .2, turn read .loop .inv .1), omega (arith, t, p .3, turn read .loop .inv .2))
 
 loop-holds : tie.Need-loop-holds Inv-loop μ-loop
 loop-holds c =
     (omega arith, refl, refl, record { passed = passed-none _; capped = λ i h. absurd (not-suc-le-zero h); reached = λ i h. absurd (not-suc-le-zero h); previous = λ h. absurd (not-suc-le-zero h) })
 
-mul-from : tie.Need-mul-from Inv-loop μ-loop
-mul-from c = search needs
-
-add-from : tie.Need-add-from Inv-loop μ-loop
-add-from c = search needs
-
-sub-decode-record : tie.Need-sub-decode-record Inv-loop μ-loop
-sub-decode-record c = search needs
-
-part-decode-record-start : tie.Need-part-decode-record-start Inv-loop μ-loop
-part-decode-record-start c = search needs
-
-part-decode-record-end : tie.Need-part-decode-record-end Inv-loop μ-loop
-part-decode-record-end c = search needs
-
-decode-record-requires : tie.Need-decode-record-requires Inv-loop μ-loop
-decode-record-requires c κs = search needs
-
-check-block-requires : tie.Need-check-block-requires Inv-loop μ-loop
-check-block-requires c κs = search needs
-
-enum-known-why : tie.Need-enum-known-why Inv-loop μ-loop
-enum-known-why c = search needs
-
-add-t21 : tie.Need-add-t21 Inv-loop μ-loop
-add-t21 c = search needs
-
-same-length : tie.Need-same-length Inv-loop μ-loop
-same-length c = search needs
-
-same-length-2 : tie.Need-same-length-2 Inv-loop μ-loop
-same-length-2 c = search needs
-
 returns : tie.Need-returns Inv-loop μ-loop
 unfolding checkRecords
 returns c =
-    let r = c .before .why .given .0 .0 in
-    let chk = c .before .before .before in
-    let l = chk .before .before .before .before in
-    let s = l .before .before .before .before .args .s .now in
-    let e = number chk ∙ ap checkedNumber (c .before .why .given .1) in
-    let fault = fault-at s (l .loop .inv .3 .passed) (chk .before .before .before .loop-test .taken) (rw e (refusal-above r)) ∙ ap (λ (n : ℕ). n at (l .loop .k + 1)) e in
-    record { answer = faulty s r _ fault; line = λ z. absurd (omega (arith, refusal-above r, sym z ∙ ap (λ (f : Fault). f .number) fault)) }
-
-enum-told : tie.Need-enum-told Inv-loop μ-loop
-enum-told c = search needs
-
--- the record passes
-passes : (c : tie.After-enum-told Inv-loop μ-loop) → blockRefusal (c .before .before .before .decode-record .result) ≡ 0
-passes c =
-    let chk = c .before .before in
-    ap blockRefusal (record-is (chk .before)) ∙ number chk ∙ ap checkedNumber (c .enum-told .given .1)
+    let why = c .before .why .given in
+    let read = c .before .before .before in
+    let t = read .before .before .loop-test .taken in
+    let r = part-refused (bytes read) t (sym (read .read-record .ensures) ∙ ap recordAnswer (why .1)) in
+    let fault = fault-at (bytes read) (turn read .loop .inv .3 .passed) t (rw (r .1) (r .0)) ∙ ap (λ (n : ℕ). n at (k read + 1)) (r .1) in
+    record { answer = faulty (bytes read) (why .0 .0) _ fault; line = λ z. absurd (omega (arith, r .0, sym z ∙ ap (λ (f : Fault). f .number) fault)) }
 
 numbers-requires : tie.Need-numbers-requires Inv-loop μ-loop
-numbers-requires c κs = (c .before .before .before .before .before .before .before .before .before .before .pre .0, passes c)
+numbers-requires c κs = (start (read c) .pre .0, passes c .1)
 
 cap-of-requires : tie.Need-cap-of-requires Inv-loop μ-loop
 cap-of-requires c κs =
-    let l = c .before .before .before .before .before .before .before in
-    (l .before .before .before .before .pre .0, passes (c .before), c .numbers .ensures, λ z. (l .loop .inv .3 .previous z .1, l .loop .inv .3 .previous z .2))
-
--- the lists have a number for record k
-within : (c : tie.After-cap-of Inv-loop μ-loop) →
-    (c .before .before .before .before .before .before .before .before .loop .k < length (c .before .before .before .before .before .before .before .before .loop .caps))
-    × (c .before .before .before .before .before .before .before .before .loop .k < length (c .before .before .before .before .before .before .before .before .loop .reaches))
-within c =
-    let l = c .before .before .before .before .before .before .before .before in
-    let t = c .before .before .before .before .before .before .before .loop-test .taken in
-    let p = l .before .before .before .before .pre in
-    (omega (arith, t, p .2, l .loop .inv .1), omega (arith, t, p .3, l .loop .inv .2))
-
-mul-caps : tie.Need-mul-caps Inv-loop μ-loop
-mul-caps c = search needs
+    let p = c .before in
+    let previous = turn (read p) .loop .inv .3 .previous in
+    (start (read p) .pre .0, passes p .1, c .numbers .ensures, λ z. (previous z .1, previous z .2))
 
 slice-write-caps : tie.Need-slice-write-caps Inv-loop μ-loop
-slice-write-caps c = within c .0
-
-mul-reaches : tie.Need-mul-reaches Inv-loop μ-loop
-mul-reaches c = search needs
+slice-write-caps c = within (c .before .before) .0
 
 slice-write-reaches : tie.Need-slice-write-reaches Inv-loop μ-loop
-slice-write-reaches c = within c .1
-
-add-k : tie.Need-add-k Inv-loop μ-loop
-add-k c = search needs
-
-loop-less : tie.Need-loop-less Inv-loop μ-loop
-loop-less c = search needs
+slice-write-reaches c = within (c .before .before) .1
 
 loop-again : tie.Need-loop-again Inv-loop μ-loop
 loop-again c =
-    let l = c .before .before .before .before .before .before .before .before in
-    let a = l .before .before .before .before .args in
-    let d = c .before .before .before .before .before in (
-      omega (arith, d .before .before .loop-test .taken),
-      length-set (l .loop .caps) (l .loop .k) (c .cap-of .result) ∙ l .loop .inv .1,
-      length-set (l .loop .reaches) (l .loop .k) (c .before .numbers .result .reach) ∙ l .loop .inv .2,
-      survey-next (a .l) (a .s .now) (l .loop .k) (d .decode-record .result) (c .before .numbers .result) (c .cap-of .result) (l .loop .inv .3) (d .before .before .loop-test .taken) (within c .0) (within c .1) (record-is d) (passes (c .before .before)) (c .before .numbers .ensures) (c .cap-of .ensures),
+    let n = c .before in
+    let p = n .before in
+    let now = turn (read p) .loop in
+    let t = read p .before .before .loop-test .taken in (
+      omega (arith, t),
+      length-set (now .caps) (now .k) (c .cap-of .result) ∙ now .inv .1,
+      length-set (now .reaches) (now .k) (n .numbers .result .reach) ∙ now .inv .2,
+      survey-next (start (read p) .args .l) (bytes (read p)) (now .k) (block p) (n .numbers .result) (c .cap-of .result) (now .inv .3) t (within p .0) (within p .1) (sym (passes p .0)) (passes p .1) (n .numbers .ensures) (c .cap-of .ensures),
     )
-
-same-length-3 : tie.Need-same-length-3 Inv-loop μ-loop
-same-length-3 c = search needs
-
-same-length-4 : tie.Need-same-length-4 Inv-loop μ-loop
-same-length-4 c = search needs
 
 returns-2 : tie.Need-returns-2 Inv-loop μ-loop
 unfolding checkRecords
@@ -166,30 +110,29 @@ survey-spec =
     (tie.spec
     Inv-loop
     μ-loop
-    sub-n
+    (λ c. search needs)
     loop-holds
-    mul-from
-    add-from
-    sub-decode-record
-    part-decode-record-start
-    part-decode-record-end
-    decode-record-requires
-    check-block-requires
-    enum-known-why
-    add-t21
-    same-length
-    same-length-2
+    (λ c. search needs)
+    (λ c. search needs)
+    (λ c. search needs)
+    (λ c. search needs)
+    (λ c. search needs)
+    (λ c κs. search needs)
+    (λ c. search needs)
+    (λ c. search needs)
+    (λ c. search needs)
+    (λ c. search needs)
     returns
-    enum-told
+    (λ c. search needs)
     numbers-requires
     cap-of-requires
-    mul-caps
+    (λ c. search needs)
     slice-write-caps
-    mul-reaches
+    (λ c. search needs)
     slice-write-reaches
-    add-k
-    loop-less
+    (λ c. search needs)
+    (λ c. search needs)
     loop-again
-    same-length-3
-    same-length-4
+    (λ c. search needs)
+    (λ c. search needs)
     returns-2)

@@ -1,12 +1,12 @@
 // The ramp of a block between its entry and exit squared speeds.
 ghost use mathlib.Core.Path.{_≡_};
 ghost use mathlib.Core.Bool.{cond};
 ghost use Rattle.machine.specs.Numbers.{Rampable, noRamp, rampOf, rampable, sized};
-use crate::Numbers;
-use crate::Ramp;
-use crate::measure::UNIT;
 use arith::whole::less;
 use arith::whole::smaller;
+use machine::Numbers;
+use machine::Ramp;
+use machine::measure::UNIT;
 
 // The ramp. Only a plan's speeds meet what is required of entry and exit.
 fn ramp(n: Numbers, entry: u64, exit: u64) -> Ramp
@@ -34,7 +34,11 @@ fn is_sized(n: Numbers, entry: u64, exit: u64) -> bool
     (accel & room) & capped
 }
 
-// The ramp of a plan's speeds; zeros for speeds that no plan has.
+// The ramp between the entry and exit that a plan has at a block's ends, (µm/s)²; zeros for speeds that no plan has.
+// This is the one door to a ramp, for the two crates that take both speeds from a plan of their own: `planner` and
+// `tapelist`. A crate that does not list `ramps` in crates.txt cannot name this function, so it cannot make a ramp; that no
+// other crate lists it is tested (tests/run). The functions of the planner, of the tape's listing and for C take no speed.
+// The language has no narrower door: a function is seen by its own crate alone or by every crate that lists its crate.
 pub fn ramp_between(n: Numbers, entry: u64, exit: u64) -> Ramp
     ensures { λ r. ⌜ r ≡ cond (rampable n entry exit) (rampOf n entry exit) noRamp ⌝ }
 {

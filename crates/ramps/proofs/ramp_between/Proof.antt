@@ -1,12 +1,12 @@
--- `machine::ramps::ramp_between` meets its contract: the two tests together are `rampable`. Assumes nothing.
+-- `ramps::ramp_between` meets its contract: the two tests together are `rampable`. Assumes nothing.
 use mathlib.Core.Path.{_≡_, sym, ap, _∙_}
 use mathlib.Core.Bool.{Bool, true, cond}
 use borrow.Author.Needs.{needs}
 use native.Mathlib.Omega.{arith}
 use Rattle.machine.specs.Numbers.{sized, rampOf, noRamp}
 use Rattle.machine.proofs.Rampables.{Sized, sized-says, steps-say, rampable-is, rampable-true, rampable-unsized, rampable-apart}
-use Rattle.machine.proofs.ramps.ramp_between.Statement.{statement}
-use Rattle.machine.proofs.ramps.ramp_between.Tie as tie
+use Rattle.ramps.proofs.ramp_between.Statement.{statement}
+use Rattle.ramps.proofs.ramp_between.Tie as tie
 
 -- in the branch of sized numbers
 size : (c : tie.Then1) → sized (c .before .before .args .n) (c .before .before .args .entry) (c .before .before .args .exit) ≡ true
@@ -14,9 +14,6 @@ size c = sym (c .before .is-sized .ensures) ∙ c .if1 .taken
 
 sizes : (c : tie.Then1) → Sized (c .before .before .args .n) (c .before .before .args .entry) (c .before .before .args .exit)
 sizes c = let a = c .before .before .args in sized-says (a .n) (a .entry) (a .exit) (size c)
-
-is-sized-requires : tie.Need-is-sized-requires
-is-sized-requires c κs = search needs
 
 add-if2 : tie.Need-add-if2
 add-if2 c = record { fits = omega (arith, sizes (c .before)) }
@@ -48,4 +45,4 @@ returns-3 c =
     sym (ap (λ (b : Bool). cond b (rampOf (a .n) (a .entry) (a .exit)) noRamp) (rampable-unsized (a .n) (a .entry) (a .exit) (sym (c .before .is-sized .ensures) ∙ c .if1 .left)))
 
 pub ramp-between-spec : {M : Type 1} → statement M
-ramp-between-spec = tie.close (tie.spec is-sized-requires add-if2 add-if2-2 ramp-requires returns returns-2 returns-3)
+ramp-between-spec = tie.close (tie.spec (λ c κs. search needs) add-if2 add-if2-2 ramp-requires returns returns-2 returns-3)
