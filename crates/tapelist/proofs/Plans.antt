@@ -1,5 +1,6 @@
--- An accepted tape and its plan: its limits and records are read, and two neighbours of the plan are within the cap and the reach of the block between
--- them. From the laws of lawful profiles, of steps and of a tape's faults. Assumes nothing.
+-- An accepted tape and its plan: its limits and records are read, two neighbours of the plan are within the cap and the reach of the block between
+-- them, and up, cruise and down of each block that is listed make up its length. From the laws of lawful profiles, of steps, of ramps and of a tape's
+-- faults. Assumes nothing.
 use mathlib.Core.Path.{_≡_, refl, ap, _∙_}
 use mathlib.Core.Bool.{cond}
 use mathlib.Core.List.{List}
@@ -17,7 +18,7 @@ use Rattle.machine.specs.declared.Limits.{Limits}
 use Rattle.machine.specs.declared.Numbers.{Numbers}
 use Rattle.machine.specs.declared.Ramp.{Ramp}
 use Rattle.machine.proofs.CapLaws.{junction-largest}
-use Rattle.machine.proofs.RampLaws.{numbers-rampable}
+use Rattle.machine.proofs.RampLaws.{numbers-rampable, ramp-fills}
 use Rattle.machine.proofs.Rampables.{rampable-holds}
 use Rattle.machine.proofs.Steps.{steps-length}
 use Rattle.line.specs.Answers.{givenOf}
@@ -104,3 +105,8 @@ module _ (s : List ℕ) (passed : tapeRefusal s ≡ 0) where
 
   pub row-between : (k : ℕ) → k < recordsIn s → betweenOf l (recordAt s k) (numberAt (tapePlan s) k) (numberAt (tapePlan s) (k + 1)) ≡ rowOf s k
   row-between k h = between-given l (recordAt s k) (numberAt (tapePlan s) k) (numberAt (tapePlan s) (k + 1)) (accepted-ramps k h)
+
+  -- and up, cruise and down make up the block
+  pub rows-fill : (k : ℕ) → k < recordsIn s → rowOf s k .ramp .up + rowOf s k .ramp .cruise + rowOf s k .ramp .down ≡ rowOf s k .length
+  unfolding givenOf numbersOf
+  rows-fill k h = ramp-fills (numbersOf l (recordAt s k)) (numberAt (tapePlan s) k) (numberAt (tapePlan s) (k + 1)) (accepted-ramps k h) refl
