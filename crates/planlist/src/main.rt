@@ -6,8 +6,9 @@ use libc::STDOUT_FILENO;
 use streams::Input;
 use streams::read_input;
 use tape::MOST_BYTES;
+use tapelist::Listing;
+use tapelist::PARTS;
 use tapelist::TEXT;
-use tapelist::list_tape;
 
 // One byte more than the longest tape: a longer input is refused by 10 whatever follows, so no more of it is read.
 const INPUT: usize = MOST_BYTES + 1;
@@ -17,12 +18,22 @@ fn say_error(line: &[u8]) {
     io::write_all(STDERR_FILENO, line);
 }
 
-// Writes the listing of a tape.
+// Writes the listing of a tape part after part, as long as they are taken. It ends at a part without a byte: behind that
+// there is none.
 fn list(tape: &[u8]) {
+    let listing = Listing::of(tape);
     let mut text = [0u8; TEXT];
-    let end = list_tape(tape, &mut text);
-    if !io::write_all(STDOUT_FILENO, &text[..end]) {
-        say_error(b"planlist: standard output did not take the whole listing\n");
+    let mut p: usize = 0;
+    while p < PARTS {
+        let end = listing.part(tape, p, &mut text);
+        if end == 0 {
+            return;
+        }
+        if !io::write_all(STDOUT_FILENO, &text[..end]) {
+            say_error(b"planlist: standard output did not take the whole listing\n");
+            return;
+        }
+        p += 1;
     }
 }
 

@@ -1,81 +1,84 @@
--- Which text any bytes get, by the answer of planning them with a list of the right length. From the laws of a tape's faults.
--- Assumes nothing.
+-- Which text any bytes get by the answer of planning them, and what is kept of them. From the laws of a tape's faults. Assumes nothing.
 use mathlib.Core.Path.{_≡_, refl, sym, ap, _∙_}
-use mathlib.Core.List.{List}
-use Prim.Native.Nat.{ℕ, zero, suc, _+_, _<_}
+use mathlib.Core.List.{List, [], _++_}
+use Prim.Native.Nat.{ℕ, zero, suc, _+_, _<_, min}
 use native.Mathlib.Omega.{arith}
 use borrow.Author.Tests.{eq-eqb}
-use lib.Dec.{eqb}
-use lib.ListN.{length}
-use Rattle.profile.specs.Passes.{planOf}
+use lib.ListN.{length, take, drop, take-append-drop, length-replicate}
+use lib.Seq.{length-take-le}
 use Rattle.machine.specs.Checks.{pick, refusalNumber}
 use Rattle.machine.specs.declared.Refusal.{Refusal}
 use Rattle.machine.proofs.AnswerLaws.{refusal-above}
 use Rattle.listing.specs.Text.{refusedAt}
+use Rattle.listing.specs.Store.{put}
+use Rattle.listing.proofs.Store.{put-none}
 use Rattle.tape.specs.Tape.{recordsIn}
-use Rattle.tape.specs.Display.{Fault, _at_, byNumber, mostBytes, tapeFault, tapeRefusal, tapePlace}
+use Rattle.tape.specs.Display.{_at_, byNumber, tapeFault, tapePlace, tapeRefusal}
 use Rattle.tape.proofs.Answers.{at-zero, above-zero}
-use Rattle.tape.proofs.Checks.{head-many}
-use Rattle.tape.proofs.Faults.{fault-head}
-use Rattle.tapeplan.specs.Planned.{PlannedTape, planFault, plannedFault, tapeSteps}
+use Rattle.tape.proofs.Faults.{tape-faultless, tape-passed}
+use Rattle.tapeplan.specs.Planned.{PlannedTape, planFault}
 use Rattle.tapeplan.specs.declared.TapePlanned.{TapePlanned}
-use Rattle.tapeplan.specs.declared.TapePlanned.the-variants.{Planned, Refused}
-use Rattle.tapelist.specs.Listing.{Accepted, acceptedText, listingOf}
+use Rattle.tapelist.specs.Listing.{acceptedText, listingOf, tapePlan}
+use Rattle.tapelist.specs.Parts.{ListingFrom, mostBlocks, mostJunctions, noPlan}
+use Rattle.tapelist.proofs.Plans.{accepted-junctions, accepted-records}
 
 module _ (s : List ℕ) where
-  -- of a tape without a fault, of one with a fault, and of one that is too long
+  -- of a tape without a fault, and of one with a fault
   pub listing-accepted : tapeRefusal s ≡ 0 → listingOf s ≡ acceptedText s
   unfolding listingOf
   listing-accepted e = at-zero (acceptedText s) (refusedAt (tapeRefusal s) (tapePlace s)) e
 
-  pub listing-refused : (n p : ℕ) → 0 < n → tapeFault s ≡ n at p → listingOf s ≡ refusedAt n p
+  pub listing-refused : (why : Refusal) (place : ℕ) → refusalNumber why at place ≡ tapeFault s → listingOf s ≡ refusedAt (refusalNumber why) place
   unfolding listingOf
-  listing-refused n p h e =
-      (λ i. byNumber (e i .number) (acceptedText s) (refusedAt (e i .number) (e i .place))) ∙ above-zero (acceptedText s) (refusedAt n p) h
+  listing-refused why place e =
+      (λ i. byNumber (sym e i .number) (acceptedText s) (refusedAt (sym e i .number) (sym e i .place)))
+      ∙ above-zero (acceptedText s) (refusedAt (refusalNumber why) place) (refusal-above why)
 
-  pub listing-many : mostBytes < length s → listingOf s ≡ refusedAt 10 0
-  listing-many h =
-      let many = head-many s h in
-      listing-refused 10 0 (omega arith) (fault-head s (omega (arith, many)) ∙ ap (λ (n : ℕ). n at 0) many)
+  -- a list with a number for each junction, as far as the longest tape has them, is never at fault
+  abbrev lent : ℕ
+  lent = min (recordsIn s) mostBlocks + 1
 
-  -- a list of the right length is never at fault
-  list-fault : tapeRefusal s ≡ 0 → planFault s (recordsIn s + 1) .number ≡ 0
+  junctions : tapeRefusal s ≡ 0 → lent ≡ recordsIn s + 1
+  junctions z = omega (arith, accepted-records s z)
+
+  fault-same : planFault s lent ≡ tapeFault s
   unfolding planFault
-  list-fault z =
-      ap (λ (f : Fault). f .number) (at-zero (pick (eqb (recordsIn s + 1) (recordsIn s + 1)) 0 11 at 0) (tapeFault s) z)
-      ∙ ap (λ t. pick t 0 11) (eq-eqb (recordsIn s + 1) (recordsIn s + 1) refl)
-
-  tape-fault : 0 < tapeRefusal s → planFault s (recordsIn s + 1) ≡ tapeFault s
-  unfolding planFault
-  tape-fault h = above-zero _ (tapeFault s) h
-
-  pub plan-refused : (n p : ℕ) → 0 < n → planFault s (recordsIn s + 1) ≡ n at p → tapeFault s ≡ n at p
-  plan-refused n p h e = go (tapeRefusal s) refl
+  fault-same = go (tapeRefusal s) refl
     where
-      go : (m : ℕ) → tapeRefusal s ≡ m → tapeFault s ≡ n at p
-      go zero z = absurd (omega (arith, list-fault z, ap (λ (f : Fault). f .number) e))
-      go (suc m) z = sym (tape-fault (omega arith)) ∙ e
+      go : (n : ℕ) → tapeRefusal s ≡ n → planFault s lent ≡ tapeFault s
+      go zero z =
+          at-zero _ (tapeFault s) z ∙ ap (λ t. pick t 0 11 at 0) (eq-eqb lent (recordsIn s + 1) (junctions z))
+          ∙ sym (tape-faultless s (tape-passed s z .0) (tape-passed s z .1))
+      go (suc n) z = let above : 0 < tapeRefusal s = omega arith in above-zero _ (tapeFault s) above
 
-  pub plan-accepted : planFault s (recordsIn s + 1) .number ≡ 0 → tapeRefusal s ≡ 0
-  plan-accepted e = go (tapeRefusal s) refl
+  -- so planning in the front of zeros leaves the plan among them, or nothing
+  plan-among : (zeros : List ℕ) {planned : List ℕ} → planned ≡ byNumber (tapeRefusal s) (tapePlan s) (take lent zeros)
+      → planned ++ drop lent zeros ≡ put zeros 0 (byNumber (tapeRefusal s) (tapePlan s) [])
+  unfolding put
+  plan-among zeros {planned} e = go (tapeRefusal s) refl
     where
-      go : (m : ℕ) → tapeRefusal s ≡ m → tapeRefusal s ≡ 0
-      go zero z = z
-      go (suc m) z = absurd (omega (arith, ap (λ (f : Fault). f .number) (tape-fault (omega arith))))
+      go : (n : ℕ) → tapeRefusal s ≡ n → planned ++ drop lent zeros ≡ put zeros 0 (byNumber (tapeRefusal s) (tapePlan s) [])
+      go zero z =
+          let size : lent ≡ 0 + length (tapePlan s) = omega (arith, accepted-junctions s z, junctions z) in
+          (λ i. (e ∙ at-zero (tapePlan s) (take lent zeros) z) i ++ drop (size i) zeros)
+          ∙ sym (ap (put zeros 0) (at-zero (tapePlan s) [] z))
+      go (suc n) z =
+          let above : 0 < tapeRefusal s = omega arith in
+          ap (λ (t : List ℕ). t ++ drop lent zeros) (e ∙ above-zero (tapePlan s) (take lent zeros) above)
+          ∙ take-append-drop lent zeros ∙ sym (put-none zeros 0) ∙ sym (ap (put zeros 0) (above-zero (tapePlan s) [] above))
 
-  -- the answer of planning with such a list
-  pub planned-accepted : {before after : List ℕ} {answer : TapePlanned} → answer ≡ Planned → PlannedTape s before after answer → length before ≡ recordsIn s + 1
-      → Accepted s after
-  planned-accepted {before} is r e =
-      let none : planFault s (length before) .number ≡ 0 = ap (λ (f : Fault). f .number) (sym (r .fault) ∙ ap plannedFault is) in
-      record {
-        passed = plan-accepted (ap (λ (m : ℕ). planFault s m .number) (sym e) ∙ none);
-        plan-is = r .list ∙ at-zero (planOf 0 (tapeSteps s)) before none;
-      }
+  -- what is kept of the tape, with n numbers lent
+  module _ {n : ℕ} (count : n ≡ lent) where
+    pub lent-length : length (take n noPlan) ≡ n
+    lent-length = length-take-le n noPlan (omega (arith, length-replicate {A = ℕ} mostJunctions 0))
 
-  pub planned-refused : {before after : List ℕ} {answer : TapePlanned} (why : Refusal) (p : ℕ) → answer ≡ Refused why p → PlannedTape s before after answer
-      → length before ≡ recordsIn s + 1 → listingOf s ≡ refusedAt (refusalNumber why) p
-  planned-refused why p is r e =
-      let above = refusal-above why in
-      listing-refused (refusalNumber why) p above
-      (plan-refused (refusalNumber why) p above (ap (planFault s) (sym e) ∙ sym (r .fault) ∙ ap plannedFault is))
+    pub listing-from : {answer : TapePlanned} {planned : List ℕ} → PlannedTape s (take n noPlan) planned answer
+        → ListingFrom s (record { answer = answer; plan = planned ++ drop n noPlan })
+    listing-from {planned} r =
+        let same : planFault s (length (take n noPlan)) ≡ tapeFault s = ap (planFault s) (lent-length ∙ count) ∙ fault-same in
+        record {
+          fault = r .fault ∙ same;
+          plan =
+              ap (λ (m : ℕ). planned ++ drop m noPlan) count
+              ∙ plan-among noPlan (r .list ∙ (λ i. byNumber (same i .number) (tapePlan s) (take (count i) noPlan)));
+        }

@@ -6,7 +6,7 @@ use native.Mathlib.Omega.{arith}
 use lib.ListN.{length, getD}
 use Rattle.listing.specs.Text.{header, refusedAt, refusedWords}
 use Rattle.listing.proofs.Lines.{line-most, refused-most}
-use Rattle.tapelist.specs.Listing.{headerSize}
+use Rattle.tapelist.specs.Parts.{headerSize}
 
 -- the header's length
 pub header-length : length header ≡ headerSize

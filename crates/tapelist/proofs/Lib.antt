@@ -1,5 +1,7 @@
 -- The laws of a tape's listing.
-pub mod Answers
-pub mod Lines
 pub mod Plans
+pub mod Lines
+pub mod Answers
 pub mod Lengths
+pub mod Parts
+pub mod Whole

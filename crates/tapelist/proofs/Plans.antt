@@ -1,106 +1,112 @@
--- An accepted tape and its plan: two neighbours of the plan are within the cap and the reach of the block between them. From the
--- laws of lawful profiles, of steps and of a tape's faults. Assumes nothing.
+-- An accepted tape and its plan: its limits and records are read, two neighbours of the plan are within the cap and the reach of the block between
+-- them, and up, cruise and down of each block that is listed make up its length. From the laws of lawful profiles, of steps, of ramps and of a tape's
+-- faults. Assumes nothing.
+use mathlib.Core.Path.{_≡_, refl, ap, _∙_}
 use mathlib.Core.Bool.{cond}
-use mathlib.Core.Path.{_≡_, ap, _∙_}
 use mathlib.Core.List.{List}
 use Prim.Native.Nat.{ℕ, zero, suc, _+_, _≤_, _<_, zero-le}
 use native.Mathlib.Decide.{decLt}
 use native.Mathlib.Numerals.{add-one}
 use native.Mathlib.Omega.{arith}
-use lib.ListN.{length}
+use lib.ListN.{length, drop, length-drop}
 use Rattle.profile.specs.Line.{Lawful, numberAt}
 use Rattle.profile.proofs.Highest.{plan-lawful}
 use Rattle.profile.proofs.Plan.{plan-length}
-use Rattle.machine.specs.Checks.{blockRefusal}
-use Rattle.machine.specs.Numbers.{LimitsBelow, Rampable, blockCap, numbersOf, noRamp, rampOf, rampable}
+use Rattle.machine.specs.Numbers.{Rampable, blockCap, numbersOf, noRamp, rampOf, rampable}
 use Rattle.machine.specs.declared.Block.{Block}
 use Rattle.machine.specs.declared.Limits.{Limits}
 use Rattle.machine.specs.declared.Numbers.{Numbers}
 use Rattle.machine.specs.declared.Ramp.{Ramp}
-use Rattle.machine.proofs.Bounds.{limits-below}
 use Rattle.machine.proofs.CapLaws.{junction-largest}
-use Rattle.machine.proofs.RampLaws.{numbers-rampable}
+use Rattle.machine.proofs.RampLaws.{numbers-rampable, ramp-fills}
 use Rattle.machine.proofs.Rampables.{rampable-holds}
 use Rattle.machine.proofs.Steps.{steps-length}
 use Rattle.line.specs.Answers.{givenOf}
 use Rattle.line.specs.declared.Given.{Given}
-use Rattle.tape.specs.Tape.{limitsAt, limitsBytes, recordAt, recordsIn, tapeBlocks, tapeLimits}
-use Rattle.tape.specs.Display.{given, refused, limitsReadRefusal, readLimits}
-use Rattle.tape.proofs.Answers.{given-is, refused-is}
-use Rattle.tape.proofs.Checks.{head-passed, head-records, limits-faultless, limits-long}
+use Rattle.tape.specs.Tape.{recordAt, recordStart, recordsIn, tapeBlocks, tapeLimits}
+use Rattle.tape.specs.Display.{given, readLimits, readRecord, tapeRefusal}
+use Rattle.tape.proofs.Answers.{at-zero}
+use Rattle.tape.proofs.Checks.{Head, head-length, head-passed, head-records, limits-long, record-long}
 use Rattle.tape.proofs.Faults.{length-blocks, tape-passed}
 use Rattle.tapeplan.specs.Planned.{tapeSteps}
 use Rattle.tapeplan.proofs.Surveys.{cap-next, reach-is}
-use Rattle.tapelist.specs.Listing.{Accepted}
+use Rattle.tapelist.specs.Listing.{rowOf, tapePlan}
+use Rattle.tapelist.specs.Parts.{betweenOf}
 
--- a block between two speeds that a ramp exists for
-pub ramped-is : (l : Limits) (b : Block) (entry exit : ℕ) {n : Numbers} {ramp : Ramp} → Rampable (numbersOf l b) entry exit → n ≡ numbersOf l b
+-- a block between two speeds, by its numbers; and between speeds that a ramp exists for
+pub between-made : (l : Limits) (b : Block) (entry exit : ℕ) {n : Numbers} {ramp : Ramp} → n ≡ numbersOf l b
     → ramp ≡ cond (rampable n entry exit) (rampOf n entry exit) noRamp
-    → _≡_ {A = Given} (record { block = b; length = n .length; accel = n .accel; entry = entry; exit = exit; ramp = ramp }) (givenOf l b entry exit)
-unfolding givenOf
-ramped-is l b entry exit {n} {ramp} h e f =
-    let same : ramp ≡ rampOf (numbersOf l b) entry exit =
-    f ∙ ap (λ (m : Numbers). cond (rampable m entry exit) (rampOf m entry exit) noRamp) e ∙ rw (rampable-holds (numbersOf l b) entry exit h) in
+    → _≡_ {A = Given} (record { block = b; length = n .length; accel = n .accel; entry = entry; exit = exit; ramp = ramp }) (betweenOf l b entry exit)
+unfolding betweenOf
+between-made l b entry exit e f =
+    let same = f ∙ ap (λ (m : Numbers). cond (rampable m entry exit) (rampOf m entry exit) noRamp) e in
     λ i. record { block = b; length = e i .length; accel = e i .accel; entry = entry; exit = exit; ramp = same i }
 
-module _ {s plan : List ℕ} (a : Accepted s plan) where
+between-given : (l : Limits) (b : Block) (entry exit : ℕ) → Rampable (numbersOf l b) entry exit → betweenOf l b entry exit ≡ givenOf l b entry exit
+unfolding betweenOf givenOf
+between-given l b entry exit h = rw (rampable-holds (numbersOf l b) entry exit h)
+
+module _ (s : List ℕ) (passed : tapeRefusal s ≡ 0) where
   abbrev l : Limits
   l = tapeLimits s
 
-  -- the limits pass, the tape is no longer than it may be, and each record passes
-  pub accepted-limits : LimitsBelow l
-  accepted-limits = limits-below l (limits-faultless s (head-passed s (tape-passed s (a .passed) .0) .limits) .1)
-
-  pub accepted-least : limitsBytes ≤ length s
-  accepted-least = head-passed s (tape-passed s (a .passed) .0) .least
+  head : Head s
+  head = head-passed s (tape-passed s passed .0)
 
   pub accepted-records : recordsIn s ≤ 2048
-  accepted-records = head-records s (head-passed s (tape-passed s (a .passed) .0))
+  accepted-records = head-records s head
 
-  pub accepted-block : (k : ℕ) → k < recordsIn s → blockRefusal (recordAt s k) ≡ 0
-  accepted-block = tape-passed s (a .passed) .1
+  -- its limits are read, and each record
+  pub accepted-limits : readLimits s ≡ given l
+  unfolding readLimits
+  accepted-limits = at-zero _ _ (limits-long s (head .least) ∙ head .limits)
 
+  pub accepted-record : (k : ℕ) → k < recordsIn s → readRecord (drop (recordStart k) s) ≡ given (recordAt s k)
+  unfolding readRecord
+  accepted-record k h =
+      at-zero _ _ (
+      record-long (drop (recordStart k) s) (omega (arith, length-drop (recordStart k) s, head-length s head))
+      ∙ tape-passed s passed .1 k h
+      )
+
+  -- the plan has a number for each junction
   steps-count : length (tapeSteps s) ≡ recordsIn s
   steps-count = steps-length l (tapeBlocks s) ∙ length-blocks s
 
-  -- the plan has a number for each junction
-  pub accepted-junctions : length plan ≡ recordsIn s + 1
-  accepted-junctions = omega (arith, ap length (a .plan-is), plan-length 0 (tapeSteps s), steps-count)
+  pub accepted-junctions : length (tapePlan s) ≡ recordsIn s + 1
+  accepted-junctions = omega (arith, plan-length 0 (tapeSteps s), steps-count)
 
-  lawful : Lawful 0 (tapeSteps s) plan
-  lawful = rw (a .plan-is) (plan-lawful 0 (tapeSteps s) zero-le)
+  lawful : Lawful 0 (tapeSteps s) (tapePlan s)
+  lawful = plan-lawful 0 (tapeSteps s) zero-le
 
   -- where a block begins, the plan is within its cap,
-  entered : (k : ℕ) → k < recordsIn s → numberAt plan k ≤ blockCap l (recordAt s k)
+  entered : (k : ℕ) → k < recordsIn s → numberAt (tapePlan s) k ≤ blockCap l (recordAt s k)
   entered zero h = omega (arith, lawful .begins)
   entered (suc k) h =
       omega (arith, lawful .capped (suc k) (omega arith) (omega (arith, steps-count)), cap-next l s k h, junction-largest l (recordAt s k) (recordAt s (suc k)) .has)
 
   -- and where it ends
-  left : (k : ℕ) → k < recordsIn s → numberAt plan (k + 1) ≤ blockCap l (recordAt s k)
+  left : (k : ℕ) → k < recordsIn s → numberAt (tapePlan s) (k + 1) ≤ blockCap l (recordAt s k)
   left k h = rw (add-one k) (go (decLt (suc k) (recordsIn s)))
     where
-      go : Dec (suc k < recordsIn s) → numberAt plan (suc k) ≤ blockCap l (recordAt s k)
+      go : Dec (suc k < recordsIn s) → numberAt (tapePlan s) (suc k) ≤ blockCap l (recordAt s k)
       go (yes g) =
           omega (arith, lawful .capped (suc k) (omega arith) (omega (arith, steps-count)), cap-next l s k g, junction-largest l (recordAt s k) (recordAt s (suc k)) .has)
       go (no g) =
           let last : suc k ≡ length (tapeSteps s) = omega (arith, steps-count) in
-          omega (arith, ap (numberAt plan) last, lawful .ends)
+          omega (arith, ap (numberAt (tapePlan s)) last, lawful .ends)
 
-  -- so a ramp exists between them
-  pub accepted-ramps : (k : ℕ) → k < recordsIn s → Rampable (numbersOf l (recordAt s k)) (numberAt plan k) (numberAt plan (k + 1))
+  -- so a ramp exists between them,
+  accepted-ramps : (k : ℕ) → k < recordsIn s → Rampable (numbersOf l (recordAt s k)) (numberAt (tapePlan s) k) (numberAt (tapePlan s) (k + 1))
   accepted-ramps k h =
-      numbers-rampable l (recordAt s k) (numberAt plan k) (numberAt plan (k + 1)) (accepted-block k h) (entered k h) (left k h)
+      numbers-rampable l (recordAt s k) (numberAt (tapePlan s) k) (numberAt (tapePlan s) (k + 1)) (tape-passed s passed .1 k h) (entered k h) (left k h)
       (omega (arith, lawful .falls k (omega (arith, steps-count)), reach-is l s k h))
       (omega (arith, lawful .rises k (omega (arith, steps-count)), reach-is l s k h))
 
-  -- its limits are read, and never refused
-  pub limits-read : {m : Limits} → given m ≡ readLimits s → m ≡ l
-  unfolding readLimits
-  limits-read e = given-is (limitsAt s) (limitsReadRefusal s) (limitsReadRefusal s) e .1
+  pub row-between : (k : ℕ) → k < recordsIn s → betweenOf l (recordAt s k) (numberAt (tapePlan s) k) (numberAt (tapePlan s) (k + 1)) ≡ rowOf s k
+  row-between k h = between-given l (recordAt s k) (numberAt (tapePlan s) k) (numberAt (tapePlan s) (k + 1)) (accepted-ramps k h)
 
-  pub limits-never : {A : Type 0} {n : ℕ} → refused n ≡ readLimits s → A
-  unfolding readLimits
-  limits-never e =
-      let head = head-passed s (tape-passed s (a .passed) .0) in
-      absurd (omega (arith, refused-is (limitsAt s) (limitsReadRefusal s) (limitsReadRefusal s) e .0, limits-long s (head .least), head .limits))
+  -- and up, cruise and down make up the block
+  pub rows-fill : (k : ℕ) → k < recordsIn s → rowOf s k .ramp .up + rowOf s k .ramp .cruise + rowOf s k .ramp .down ≡ rowOf s k .length
+  unfolding givenOf numbersOf
+  rows-fill k h = ramp-fills (numbersOf l (recordAt s k)) (numberAt (tapePlan s) k) (numberAt (tapePlan s) (k + 1)) (accepted-ramps k h) refl

@@ -1,2 +1,3 @@
 -- The listing of a whole tape.
 pub mod Listing
+pub mod Parts

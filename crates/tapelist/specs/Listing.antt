@@ -1,16 +1,16 @@
 -- Document 01's listing of a whole tape, as bytes. Assumes nothing.
-use mathlib.Core.Path.{_≡_}
 use mathlib.Core.List.{List, [], _∷_, _++_}
-use Prim.Native.Nat.{ℕ}
+use Prim.Native.Nat.{ℕ, _+_}
 use lib.ListN.{drop}
 use Rattle.profile.specs.Line.{numberAt}
 use Rattle.profile.specs.Passes.{planOf}
 use Rattle.machine.specs.declared.Block.{Block}
 use Rattle.machine.specs.declared.Limits.{Limits}
 use Rattle.line.specs.Answers.{givenOf}
+use Rattle.line.specs.declared.Given.{Given}
 use Rattle.listing.specs.Text.{header, refusedAt}
 use Rattle.givenlist.specs.Given.{givenText}
-use Rattle.tape.specs.Tape.{tapeBlocks, tapeLimits}
+use Rattle.tape.specs.Tape.{recordAt, tapeBlocks, tapeLimits}
 use Rattle.tape.specs.Display.{byNumber, tapeRefusal, tapePlace}
 use Rattle.tapeplan.specs.Planned.{tapeSteps}
 
@@ -23,6 +23,10 @@ linesOf l (b ∷ rest) plan = givenText (givenOf l b (numberAt plan 0) (numberAt
 abbrev pub tapePlan : List ℕ → List ℕ
 tapePlan s = planOf 0 (tapeSteps s)
 
+-- block k of an accepted tape as it is listed
+abbrev pub rowOf : List ℕ → (k : ℕ) → Given
+rowOf s k = givenOf (tapeLimits s) (recordAt s k) (numberAt (tapePlan s) k) (numberAt (tapePlan s) (k + 1))
+
 -- what is listed of an accepted tape
 abbrev pub acceptedText : List ℕ → List ℕ
 acceptedText s = header ++ linesOf (tapeLimits s) (tapeBlocks s) (tapePlan s)
@@ -30,19 +34,3 @@ acceptedText s = header ++ linesOf (tapeLimits s) (tapeBlocks s) (tapePlan s)
 -- the listing of any bytes: of an accepted tape, or the refusal's line
 unfoldable pub listingOf : List ℕ → List ℕ
 listingOf s = byNumber (tapeRefusal s) (acceptedText s) (refusedAt (tapeRefusal s) (tapePlace s))
-
--- bytes of the header, and of the text that is lent: 2,048 lines of at most 190 more
-abbrev pub headerSize : ℕ
-headerSize = 49
-
-abbrev pub textSize : ℕ
-textSize = 389_169
-
--- junctions of the longest tape
-abbrev pub mostJunctions : ℕ
-mostJunctions = 2049
-
--- an accepted tape with its plan
-pub record Accepted (s plan : List ℕ) : Type 0 where
-  pub passed : tapeRefusal s ≡ 0
-  pub plan-is : plan ≡ tapePlan s

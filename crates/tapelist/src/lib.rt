@@ -1,16 +1,16 @@
 // The listing of a whole tape as document 01 words it, for every bytes: a header and one line for each block, or the one
-// line of the refusal.
+// line of the refusal. A tape is planned once, and its text comes in parts, each stored in bytes that the caller lends.
 ghost use mathlib.Core.Path.{_≡_};
-ghost use Prim.Native.Nat.{_-_, _/_, _≤_};
+ghost use Prim.Native.Nat.{_+_, _-_, _/_, _≤_, min};
 ghost use lib.ListN.{length};
 ghost use Rattle.machine.specs.Checks.{blockRefusal, refusalNumber};
-ghost use Rattle.machine.specs.Numbers.{LimitsBelow, Rampable, numbersOf};
-ghost use Rattle.line.specs.Answers.{givenOf};
-ghost use Rattle.listing.specs.Text.{header, refusedAt};
+ghost use Rattle.machine.specs.Numbers.{LimitsBelow};
+ghost use Rattle.listing.specs.Text.{refusedAt};
 ghost use Rattle.listing.specs.Store.{Stored};
-ghost use Rattle.tape.specs.Tape.{limitsBytes, recordBytes, tapeBlocks, tapeLimits};
-ghost use Rattle.tape.specs.Display.{mostBytes};
-ghost use Rattle.tapelist.specs.Listing.{Accepted, acceptedText, headerSize, linesOf, listingOf, mostJunctions, textSize};
+ghost use Rattle.givenlist.specs.Given.{WroteLine, mostGiven};
+ghost use Rattle.tape.specs.Tape.{limitsBytes, recordBytes};
+ghost use Rattle.tape.specs.Display.{readRecord};
+ghost use Rattle.tapelist.specs.Parts.{ListingFrom, betweenOf, headIn, headerSize, mostBlocks, mostJunctions, onlyFirst, partBlocks, partOf, partSize, plannedPart, recordLine, recordLines};
 use givenlist::store_given;
 use line::Given;
 use listing::behind;
@@ -24,33 +24,28 @@ use machine::measure::numbers;
 use ramps::ramp_between;
 use tape::LIMITS_BYTES;
 use tape::LimitsRead;
-use tape::MOST_BYTES;
 use tape::RECORD_BYTES;
+use tape::RecordRead;
 use tape::limits::read_limits;
-use tape::records::decode_record;
+use tape::records::read_record;
 use tapeplan::MOST_BLOCKS;
 use tapeplan::TapePlanned;
 use tapeplan::whole::plan_tape;
 
-// Bytes that hold the listing of any tape: 49 of the header, and 190 for each of 2,048 lines.
-pub const TEXT: usize = 389_169;
+// Lines of a part at most, and parts of a listing at most.
+const BLOCKS: usize = 128;
+
+pub const PARTS: usize = MOST_BLOCKS / BLOCKS;
+// Bytes that hold any part: 49 of the header, and 190 for each of 128 lines.
+pub const TEXT: usize = 24_369;
 // Junctions of the longest tape.
 const JUNCTIONS: usize = MOST_BLOCKS + 1;
 
-// A block with the entry and exit squared speeds that a plan has at its ends, (µm/s)².
-fn given_between(l: Limits, b: Block, entry: u64, exit: u64) -> Given
-    requires { ⌜ LimitsBelow l × (blockRefusal b ≡ 0) × Rampable (numbersOf l b) entry exit ⌝ }
-    ensures { λ r. ⌜ r ≡ givenOf l b entry exit ⌝ }
+// The smaller of two counts.
+fn fewer(a: usize, b: usize) -> usize
+    ensures { λ r. ⌜ r ≡ min a b ⌝ }
 {
-    let n = numbers(l, b);
-    Given {
-        block: b,
-        length: n.length,
-        accel: n.accel,
-        entry: entry,
-        exit: exit,
-        ramp: ramp_between(n, entry, exit),
-    }
+    if a <= b { a } else { b }
 }
 
 // How many records follow the limits in so many bytes.
@@ -63,78 +58,122 @@ fn records_in(bytes: usize) -> usize
     (bytes - LIMITS_BYTES) / RECORD_BYTES
 }
 
-// Stores the line of a refusal.
-fn put_refusal(text: &mut [u8], why: Refusal, place: usize) -> usize
-    requires { ⌜ length (now text) ≡ textSize ⌝ }
-    ensures { λ r. ⌜ Stored (now (text .entry)) 0 (refusedAt (refusalNumber why) place) r (now (text .exit)) ⌝ }
+// A block with the squared speeds at its ends, (µm/s)²; a ramp of zeros between speeds that no plan has.
+fn given_between(l: Limits, b: Block, entry: u64, exit: u64) -> Given
+    requires { ⌜ LimitsBelow l × (blockRefusal b ≡ 0) ⌝ }
+    ensures { λ r. ⌜ r ≡ betweenOf l b entry exit ⌝ }
 {
+    let n = numbers(l, b);
+    Given {
+        block: b,
+        length: n.length,
+        accel: n.accel,
+        entry: entry,
+        exit: exit,
+        ramp: ramp_between(n, entry, exit),
+    }
+}
+
+// Stores the line of the record that the bytes begin with; none where it is refused.
+fn put_record(s: &[u8], l: Limits, entry: u64, exit: u64, text: &mut [u8], at: usize) -> usize
+    requires { ⌜ LimitsBelow l × (at + mostGiven ≤ length (now text)) ⌝ }
+    ensures { λ r. ⌜ WroteLine (recordLine l (readRecord (now (s .entry))) entry exit) (now (text .entry)) at r (now (text .exit)) ⌝ }
+{
+    match read_record(s) {
+        RecordRead::Refused(_) => at,
+        RecordRead::Read(b) => store_given(text, at, given_between(l, b, entry, exit)),
+    }
+}
+
+// Stores the lines of 128 records from record `first` on, as far as the bytes have them.
+fn put_lines(s: &[u8], l: Limits, plan: &[u64], first: usize, text: &mut [u8], at: usize) -> usize
+    requires { ⌜ LimitsBelow l × (length (now plan) ≡ mostJunctions) × (first + partBlocks ≤ mostBlocks) × (at ≤ headerSize) × (length (now text) ≡ partSize) ⌝ }
+    ensures { λ r. ⌜ Stored (now (text .entry)) at (recordLines l (now (s .entry)) (now (plan .entry)) first partBlocks) r (now (text .exit)) ⌝ }
+{
+    let to = fewer(first + BLOCKS, records_in(s.len()));
+    let mut end = at;
+    let mut k = first;
+    while k < to {
+        let from = LIMITS_BYTES + RECORD_BYTES * k;
+        end = put_record(&s[from..], l, plan[k], plan[k + 1], text, end);
+        k += 1;
+    }
+    end
+}
+
+// Stores the header in part 0.
+fn put_head(p: usize, text: &mut [u8]) -> usize
+    requires { ⌜ length (now text) ≡ partSize ⌝ }
+    ensures { λ r. ⌜ Stored (now (text .entry)) 0 (headIn p) r (now (text .exit)) ⌝ }
+{
+    if 0 < p {
+        return 0;
+    }
+    behind(put_header(text, 0), 0)
+}
+
+// Stores the line of a refusal in part 0.
+fn put_refusal(p: usize, why: Refusal, place: usize, text: &mut [u8]) -> usize
+    requires { ⌜ length (now text) ≡ partSize ⌝ }
+    ensures { λ r. ⌜ Stored (now (text .entry)) 0 (onlyFirst p (refusedAt (refusalNumber why) place)) r (now (text .exit)) ⌝ }
+{
+    if 0 < p {
+        return 0;
+    }
     behind(
         put_refused_at(text, 0, refusal_number(why), place as u64),
         0,
     )
 }
 
-// Stores the header.
-fn put_head(text: &mut [u8]) -> usize
-    requires { ⌜ length (now text) ≡ textSize ⌝ }
-    ensures { λ r. ⌜ Stored (now (text .entry)) 0 header r (now (text .exit)) ⌝ }
+// Stores a part of a tape that was planned.
+fn put_part(s: &[u8], plan: &[u64], p: usize, text: &mut [u8]) -> usize
+    requires { ⌜ (length (now plan) ≡ mostJunctions) × (length (now text) ≡ partSize) ⌝ }
+    ensures { λ r. ⌜ Stored (now (text .entry)) 0 (plannedPart (now (s .entry)) (now (plan .entry)) p) r (now (text .exit)) ⌝ }
 {
-    behind(put_header(text, 0), 0)
-}
-
-// Stores the lines of an accepted tape's blocks from its plan.
-fn put_lines(s: &[u8], l: Limits, plan: &[u64], text: &mut [u8], at: usize) -> usize
-    requires { ⌜ (length (now text) ≡ textSize) × (at ≡ headerSize) × (l ≡ tapeLimits (now s)) × Accepted (now s) (now plan) ⌝ }
-    ensures { λ r. ⌜ Stored (now (text .entry)) at (linesOf (tapeLimits (now (s .entry))) (tapeBlocks (now (s .entry))) (now (plan .entry))) r (now (text .exit)) ⌝ }
-{
-    let n = records_in(s.len());
-    let mut end = at;
-    let mut k: usize = 0;
-    while k < n {
-        let from = LIMITS_BYTES + RECORD_BYTES * k;
-        let b = decode_record(&s[from..]);
-        let g = given_between(l, b, plan[k], plan[k + 1]);
-        end = store_given(text, end, g);
-        k += 1;
+    if PARTS <= p {
+        return 0;
     }
-    end
-}
-
-// Stores the header and the lines of an accepted tape.
-fn list_accepted(s: &[u8], plan: &[u64], text: &mut [u8]) -> usize
-    requires { ⌜ (length (now text) ≡ textSize) × Accepted (now s) (now plan) ⌝ }
-    ensures { λ r. ⌜ Stored (now (text .entry)) 0 (acceptedText (now (s .entry))) r (now (text .exit)) ⌝ }
-{
     match read_limits(s) {
-        // an accepted tape's limits are never refused
         LimitsRead::Refused(_) => 0,
         LimitsRead::Read(l) => {
-            let at = put_head(text);
-            put_lines(s, l, plan, text, at)
+            let at = put_head(p, text);
+            put_lines(s, l, plan, BLOCKS * p, text, at)
         }
     }
 }
 
-// The listing of a tape that is not too long; its plan is made in the lent list.
-fn list_planned(s: &[u8], plan: &mut [u64], text: &mut [u8]) -> usize
-    requires { ⌜ (length (now text) ≡ textSize) × (length (now s) ≤ mostBytes) × (length (now plan) ≡ mostJunctions) ⌝ }
-    ensures { λ r. ⌜ Stored (now (text .entry)) 0 (listingOf (now (s .entry))) r (now (text .exit)) ⌝ }
-{
-    let junctions = records_in(s.len()) + 1;
-    match plan_tape(s, &mut plan[..junctions]) {
-        TapePlanned::Refused(why, place) => put_refusal(text, why, place),
-        TapePlanned::Planned => list_accepted(s, &plan[..junctions], text),
-    }
+// What a tape's listing is made from, besides its bytes. Only `of` makes one, so every speed in it is a plan's.
+pub struct Listing {
+    // the answer of planning the tape
+    answer: TapePlanned,
+    // its squared speed at each junction, (µm/s)², and zeros behind them
+    plan: [u64; JUNCTIONS],
 }
 
-// Stores the listing of any bytes at the beginning of the lent text, whose other bytes stay as they are, and returns how
-// many bytes it has.
-pub fn list_tape(s: &[u8], text: &mut [u8; TEXT]) -> usize
-    ensures { λ r. ⌜ Stored (now (text .entry)) 0 (listingOf (now (s .entry))) r (now (text .exit)) ⌝ }
-{
-    if MOST_BYTES < s.len() {
-        return put_refusal(text, Refusal::Many, 0);
+impl Listing {
+    // Plans a tape.
+    pub fn of(s: &[u8]) -> Listing
+        ensures { λ r. ⌜ ListingFrom (now (s .entry)) r ⌝ }
+    {
+        let mut plan = [0u64; JUNCTIONS];
+        let junctions = fewer(records_in(s.len()), MOST_BLOCKS) + 1;
+        let answer = plan_tape(s, &mut plan[..junctions]);
+        Listing {
+            answer: answer,
+            plan: plan,
+        }
     }
-    let mut plan = [0u64; JUNCTIONS];
-    list_planned(s, &mut plan, text)
+
+    // Stores part p, counted from 0, of the listing of the tape that this was made from at the beginning of the lent text,
+    // whose other bytes stay as they are. Returns how many bytes it has: 0 behind the last part, and then of every later one.
+    pub fn part(self, s: &[u8], p: usize, text: &mut [u8; TEXT]) -> usize
+        ensures { λ r. ⌜ Stored (now (text .entry)) 0 (partOf self (now (s .entry)) p) r (now (text .exit)) ⌝ }
+    {
+        let answer = self.answer;
+        match answer {
+            TapePlanned::Refused(why, place) => put_refusal(p, why, place, text),
+            TapePlanned::Planned => put_part(s, &self.plan, p, text),
+        }
+    }
 }

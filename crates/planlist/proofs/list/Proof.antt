@@ -1,43 +1,40 @@
--- `planlist::list`: the listing has room in its text.
-use Prim.Native.Nat.{zero-le}
+-- `planlist::list`: each part has room in its text, and at most 16 are written. What they come to is the law `listing-written` of `tapelist`.
+use Prim.Native.Nat.{_-_, zero-le}
 use Rattle.listing.proofs.Store.{within, length-front}
+use Rattle.tapelist.specs.Parts.{mostParts}
 use borrow.Author.Needs.{needs}
 use Rattle.planlist.proofs.list.Statement.{statement}
 use Rattle.planlist.proofs.list.Tie as tie
 
-list-tape-requires : tie.Need-list-tape-requires
-list-tape-requires c κs = search needs
+abbrev Inv-loop : tie.InvT-loop
+Inv-loop tape listing text₀ p₀ t6 text p = Unit {0}
 
-array-share-prefix-text : tie.Need-array-share-prefix-text
-array-share-prefix-text c = within (c .list-tape .ensures) zero-le
+abbrev μ-loop : tie.MeasureT-loop
+μ-loop tape listing text₀ p₀ t6 text p = mostParts - p
 
-slice-aggregate-write-all : tie.Need-slice-aggregate-write-all
-slice-aggregate-write-all c = length-front (c .before .list-tape .ensures)
+array-share-prefix-text : tie.Need-array-share-prefix-text Inv-loop μ-loop
+array-share-prefix-text c = within (c .before .part .ensures) zero-le
 
-write-all-requires : tie.Need-write-all-requires
-write-all-requires c κs = search needs
-
-slice-aggregate-say-error : tie.Need-slice-aggregate-say-error
-slice-aggregate-say-error c = search needs
-
-say-error-requires : tie.Need-say-error-requires
-say-error-requires c κs = search needs
-
-returns : tie.Need-returns
-returns c = search needs
-
-returns-2 : tie.Need-returns-2
-returns-2 c = search needs
+slice-aggregate-write-all : tie.Need-slice-aggregate-write-all Inv-loop μ-loop
+slice-aggregate-write-all c = length-front (c .before .before .part .ensures)
 
 pub list-spec : {M : Type 1} → statement M
 list-spec =
     tie.close
     (tie.spec
-    list-tape-requires
+    Inv-loop
+    μ-loop
+    (λ c κs. search needs)
+    (λ c. tt)
+    (λ c κs. search needs)
+    (λ c. search needs)
     array-share-prefix-text
     slice-aggregate-write-all
-    write-all-requires
-    slice-aggregate-say-error
-    say-error-requires
-    returns
-    returns-2)
+    (λ c κs. search needs)
+    (λ c. search needs)
+    (λ c κs. search needs)
+    (λ c. search needs)
+    (λ c. search needs)
+    (λ c. search needs)
+    (λ c. tt)
+    (λ c. search needs))

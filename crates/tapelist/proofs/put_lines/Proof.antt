@@ -1,132 +1,51 @@
--- `tapelist::put_lines`: a turn stores one line more. From the laws of lines and of an accepted tape's plan.
-use mathlib.Core.Path.{_≡_, refl, ap, _∙_}
-use mathlib.Core.List.{List}
-use Prim.Native.Nat.{ℕ, _+_, _-_, _≤_, _<_, zero-le}
+-- `tapelist::put_lines`: a turn stores one line more. From the laws of lines.
+use mathlib.Core.Path.{_≡_, refl}
+use Prim.Native.Nat.{_+_, _-_, _<_, _≤_}
 use native.Mathlib.Omega.{arith}
 use lib.ListN.{length}
-use Rattle.profile.specs.Line.{numberAt}
-use Rattle.machine.specs.Checks.{blockRefusal}
-use Rattle.line.specs.Answers.{givenOf}
-use Rattle.tape.specs.Tape.{recordsIn}
-use Rattle.tape.proofs.Faults.{part-record}
-use Rattle.tapelist.specs.Listing.{Accepted}
-use Rattle.tapelist.proofs.Lines.{Storing, storing-next, storing-all}
-use Rattle.tapelist.proofs.Plans.{accepted-limits, accepted-records, accepted-block, accepted-junctions, accepted-ramps}
+use Rattle.givenlist.specs.Given.{mostGiven}
+use Rattle.tapelist.specs.Parts.{partBlocks}
+use Rattle.tapelist.proofs.Lines.{Storing, storing-all, storing-next}
 use borrow.Author.Needs.{needs}
 use Rattle.tapelist.proofs.put_lines.Statement.{statement}
 use Rattle.tapelist.proofs.put_lines.Tie as tie
 
 abbrev Inv-loop : tie.InvT-loop
-Inv-loop s l plan text₀ at n end₀ k₀ text end k = (k ≤ recordsIn s) × (length text ≡ length text₀) × Storing s plan text₀ at text end k
+Inv-loop s l plan first text₀ at to end₀ k₀ text end k =
+    (first ≤ k) × ((k ≤ first + partBlocks) × ((length text ≡ length text₀) × Storing l s plan first text₀ at text end k))
 
 abbrev μ-loop : tie.MeasureT-loop
-μ-loop s l plan text₀ at n end₀ k₀ text end k = recordsIn s - k
-
--- what is known in a turn: the tape and its plan, and the block of this turn
-module _ (turn : tie.In-loop Inv-loop μ-loop) where
-  abbrev start : tie.Start Inv-loop μ-loop
-  start = turn .before .before .before .before .before .before
-
-  abbrev tape : List ℕ
-  tape = start .args .s .now
-
-  abbrev plan : List ℕ
-  plan = start .args .plan .now
-
-  abbrev k : ℕ
-  k = turn .before .loop .k
-
-  accepted : Accepted tape plan
-  accepted = start .pre .3
-
-  here : k < recordsIn tape
-  here = omega (arith, turn .loop-test .taken, turn .before .before .records-in .ensures)
-
-  junctions : length plan ≡ recordsIn tape + 1
-  junctions = accepted-junctions accepted
-
-records-in-requires : tie.Need-records-in-requires Inv-loop μ-loop
-records-in-requires c κs = search needs
+μ-loop s l plan first text₀ at to end₀ k₀ text end k = to - k
 
 loop-holds : tie.Need-loop-holds Inv-loop μ-loop
-loop-holds c = (zero-le, refl, record { leads = refl; left = refl; room = omega arith })
+loop-holds c = (search needs, (search needs, (refl, record { leads = refl; left = refl; room = omega arith })))
 
-mul-from : tie.Need-mul-from Inv-loop μ-loop
-mul-from c = search needs
+-- what is known in a turn
+module _ (turn : tie.In-loop Inv-loop μ-loop) where
+  abbrev start : tie.Start Inv-loop μ-loop
+  start = turn .before .before .before .before .before .before .before
 
-add-from : tie.Need-add-from Inv-loop μ-loop
-add-from c = search needs
+  abbrev loop : tie.At-loop Inv-loop μ-loop
+  loop = turn .before
 
-sub-decode-record : tie.Need-sub-decode-record Inv-loop μ-loop
-sub-decode-record c = search needs
+  here : loop .loop .k < start .args .first + partBlocks
+  here = omega (arith, turn .loop-test .taken, loop .before .fewer .ensures)
 
-part-decode-record-start : tie.Need-part-decode-record-start Inv-loop μ-loop
-part-decode-record-start c = search needs
+  room : loop .loop .end + mostGiven ≤ length (loop .loop .text)
+  room = omega (arith, loop .loop .inv .0, here, loop .loop .inv .1 .1 .0, loop .loop .inv .1 .1 .1 .room, start .pre .3, start .pre .4)
 
-part-decode-record-end : tie.Need-part-decode-record-end Inv-loop μ-loop
-part-decode-record-end c = search needs
-
-decode-record-requires : tie.Need-decode-record-requires Inv-loop μ-loop
-decode-record-requires c κs = search needs
-
-mul-given-between : tie.Need-mul-given-between Inv-loop μ-loop
-mul-given-between c = search needs
-
-shared-slice-read-given-between : tie.Need-shared-slice-read-given-between Inv-loop μ-loop
-shared-slice-read-given-between c = let turn = c .before .before .before in omega (arith, here turn, junctions turn)
-
-add-given-between : tie.Need-add-given-between Inv-loop μ-loop
-add-given-between c = search needs
-
-mul-given-between-2 : tie.Need-mul-given-between-2 Inv-loop μ-loop
-mul-given-between-2 c = search needs
-
-shared-slice-read-given-between-2 : tie.Need-shared-slice-read-given-between-2 Inv-loop μ-loop
-shared-slice-read-given-between-2 c = let turn = c .before .before .before .before in omega (arith, here turn, junctions turn)
-
-given-between-requires : tie.Need-given-between-requires Inv-loop μ-loop
-given-between-requires c κs =
-    let turn = c .before .before .before .before in
-    let block = c .before .before .decode-record .ensures ∙ part-record (tape turn) (k turn) in
-    let limits = start turn .pre .2 in (
-      rw limits (accepted-limits (accepted turn)),
-      ap blockRefusal block ∙ accepted-block (accepted turn) (k turn) (here turn),
-      rw (limits, block) (accepted-ramps (accepted turn) (k turn) (here turn)),
-    )
-
-store-given-requires : tie.Need-store-given-requires Inv-loop μ-loop
-store-given-requires c κs =
-    let turn = c .before .before .before .before .before .before in
-    let inv = turn .before .loop .inv in
-    omega (arith, inv .1, inv .2 .room, here turn, accepted-records (accepted turn), start turn .pre .0, start turn .pre .1)
-
-add-k : tie.Need-add-k Inv-loop μ-loop
-add-k c = search needs
-
-loop-less : tie.Need-loop-less Inv-loop μ-loop
-loop-less c = search needs
+put-record-requires : tie.Need-put-record-requires Inv-loop μ-loop
+put-record-requires c κs = let turn = c .before .before .before .before in (start turn .pre .0, room turn)
 
 loop-again : tie.Need-loop-again Inv-loop μ-loop
 loop-again c =
-    let turn = c .before .before .before .before .before .before .before .before .before in
-    let inv = turn .before .loop .inv in
-    let block = c .before .before .before .before .before .before .before .decode-record .ensures ∙ part-record (tape turn) (k turn) in
-    let given = c .before .before .before .before .given-between .ensures ∙ (λ i. givenOf (start turn .pre .2 i) (block i) (numberAt (plan turn) (k turn)) (numberAt (plan turn) (k turn + 1))) in (
-      omega (arith, here turn),
-      omega (arith, c .before .before .store-given .kept .0, inv .1),
-      storing-next (tape turn) (plan turn) (k turn) _ (inv .2) (here turn)
-          (omega (arith, inv .1, inv .2 .room, here turn, accepted-records (accepted turn), start turn .pre .0, start turn .pre .1))
-          given
-          (c .before .before .store-given .ensures),
-    )
-
-same-length : tie.Need-same-length Inv-loop μ-loop
-same-length c = search needs
+    let stored = c .before .before in
+    let turn = stored .before .before .before .before .before in
+    let inv = loop turn .loop .inv in
+    (omega (arith, inv .0), (omega (arith, here turn), (search needs, storing-next (start turn .args .l) (start turn .args .s .now) (start turn .args .plan .now) (loop turn .loop .k) (inv .1 .1 .1) (inv .0) (here turn) (omega (arith, room turn)) (stored .put-record .ensures))))
 
 returns : tie.Need-returns Inv-loop μ-loop
-returns c =
-    let loop = c .before .loop in
-    storing-all _ _ (loop .inv .2) (omega (arith, loop .inv .0, c .loop-test .left, c .before .before .records-in .ensures))
+returns c = storing-all _ _ _ (c .before .loop .inv .1 .1 .1) (omega (arith, c .loop-test .left, c .before .before .fewer .ensures, c .before .before .before .records-in .ensures))
 
 pub put-lines-spec : {M : Type 1} → statement M
 put-lines-spec =
@@ -134,23 +53,23 @@ put-lines-spec =
     (tie.spec
     Inv-loop
     μ-loop
-    records-in-requires
+    (λ c. search needs)
+    (λ c κs. search needs)
+    (λ c κs. search needs)
     loop-holds
-    mul-from
-    add-from
-    sub-decode-record
-    part-decode-record-start
-    part-decode-record-end
-    decode-record-requires
-    mul-given-between
-    shared-slice-read-given-between
-    add-given-between
-    mul-given-between-2
-    shared-slice-read-given-between-2
-    given-between-requires
-    store-given-requires
-    add-k
-    loop-less
+    (λ c. search needs)
+    (λ c. search needs)
+    (λ c. search needs)
+    (λ c. search needs)
+    (λ c. search needs)
+    (λ c. search needs)
+    (λ c. search needs)
+    (λ c. search needs)
+    (λ c. search needs)
+    (λ c. search needs)
+    put-record-requires
+    (λ c. search needs)
+    (λ c. search needs)
     loop-again
-    same-length
+    (λ c. search needs)
     returns)

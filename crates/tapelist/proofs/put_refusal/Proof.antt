@@ -1,29 +1,26 @@
--- `tapelist::put_refusal`: a refusal's line has room.
+-- `tapelist::put_refusal`: a refusal's line has room, and stands in part 0 only.
+use mathlib.Core.Path.{ap}
+use Prim.Native.Nat.{ℕ}
 use native.Mathlib.Omega.{arith}
+use Rattle.listing.specs.Text.{refusedAt}
 use Rattle.listing.proofs.Store.{stored-with-room}
 use Rattle.tapelist.proofs.Lengths.{refusal-short}
+use Rattle.tapelist.proofs.Parts.{first-stored, later-stored}
 use borrow.Author.Needs.{needs}
 use Rattle.tapelist.proofs.put_refusal.Statement.{statement}
 use Rattle.tapelist.proofs.put_refusal.Tie as tie
 
-refusal-number-requires : tie.Need-refusal-number-requires
-refusal-number-requires c κs = search needs
-
-put-refused-at-requires : tie.Need-put-refused-at-requires
-put-refused-at-requires c κs = search needs
-
-behind-requires : tie.Need-behind-requires
-behind-requires c κs = search needs
-
-same-length : tie.Need-same-length
-same-length c = search needs
-
 returns : tie.Need-returns
-returns c =
+returns c = later-stored _ _ _ (c .if1 .taken)
+
+returns-2 : tie.Need-returns-2
+returns-2 c =
     let put = c .before .before .before in
     let number = put .before in
-    let start = number .before .before .before in
-    rw (← number .refusal-number .ensures)
+    let arm = number .before .before in
+    let start = arm .before .before in
+    first-stored (start .args .p) (λ h. omega (arith, arm .if1 .left))
+    (ap (λ (n : ℕ). refusedAt n (start .args .place)) (number .refusal-number .ensures))
     (stored-with-room
     (omega (arith, start .pre, refusal-short (number .refusal-number .result) (start .args .place) (number .refusal-number .ok) (start .fits .place .fits)))
     (put .put-refused-at .ensures)
@@ -32,4 +29,10 @@ returns c =
 pub put-refusal-spec : {M : Type 1} → statement M
 put-refusal-spec =
     tie.close
-    (tie.spec refusal-number-requires put-refused-at-requires behind-requires same-length returns)
+    (tie.spec
+    returns
+    (λ c κs. search needs)
+    (λ c κs. search needs)
+    (λ c κs. search needs)
+    (λ c. search needs)
+    returns-2)
