@@ -117,7 +117,7 @@ impl Pages {
         let end = begin + self.bytes();
         if (begin - PAGE..begin).contains(&address) {
             let before = begin - address;
-            return Some(format!("{before} bytes before the begin of lent memory"));
+            return Some(format!("byte {before} before the begin of lent memory"));
         }
         let behind = address.checked_sub(end).filter(|far| *far < PAGE)?;
         Some(format!(
@@ -153,8 +153,8 @@ extern "C" fn tell(_signal: i32, fault: *const Fault, _context: *mut c_void) {
     let address = unsafe { (*fault).address };
     let left = |all: &Vec<Pages>| all.iter().find_map(|pages| pages.left_at(address));
     let place = ALL.with_borrow(left);
-    let place = place.unwrap_or_else(|| format!("at {address:#x}, far from lent memory"));
+    let place = place.unwrap_or_else(|| format!("address {address:#x}, far from lent memory"));
     let seed = SEED.get();
-    let line = format!("\nGUARD: a call read or wrote {place}, while trying seed {seed}\n");
+    let line = format!("\nGUARD: a call touched {place}, while trying seed {seed}\n");
     let _ = std::io::stderr().write_all(line.as_bytes());
 }
