@@ -35,45 +35,25 @@ const LIMITS: [LimitEnds; 9] = [
 /// number that these give.
 type FieldEnds = (fn(&mut Block, i64), &'static [i64], &'static [i64], u64);
 
-/// The fields of a block. 16,777,215 and 1,048,575 are the greatest numbers of
-/// their fields on tape.
+/// Values at the ends of each field's range, and beyond it, up to the greatest
+/// number that the field has on tape; a mark's beyond is none of the tape's.
+const MOVE: &[i64] = &[-1_000_000, 1_000_000];
+const LONG: &[i64] = &[-1_000_001, 1_000_001, -1_048_576, 1_048_575];
+const FEED: &[i64] = &[1, 2, 999_999, 1_000_000];
+const NO_FEED: &[i64] = &[0, 1_000_001, 1_048_575];
+const RADIUS: &[i64] = &[0, 1, 9_999_999, 10_000_000];
+const NO_RADIUS: &[i64] = &[10_000_001, 16_777_215];
+const MARK: &[i64] = &[0, 1, 2_097_150, 2_097_151];
+const NO_MARK: &[i64] = &[2_097_152, 4_294_967_295];
+
+/// The fields of a block.
 const FIELDS: [FieldEnds; 6] = [
-    (
-        |b, v| b.moves[0] = v,
-        &[-1_000_000, 1_000_000],
-        &[-1_000_001, 1_000_001, -1_048_576, 1_048_575],
-        3,
-    ),
-    (
-        |b, v| b.moves[1] = v,
-        &[-1_000_000, 1_000_000],
-        &[-1_000_001, 1_000_001, -1_048_576, 1_048_575],
-        3,
-    ),
-    (
-        |b, v| b.moves[2] = v,
-        &[-1_000_000, 1_000_000],
-        &[-1_000_001, 1_000_001, -1_048_576, 1_048_575],
-        3,
-    ),
-    (
-        |b, v| b.feed = v as u64,
-        &[1, 2, 999_999, 1_000_000],
-        &[0, 1_000_001, 1_048_575],
-        4,
-    ),
-    (
-        |b, v| b.radius = v as u64,
-        &[0, 1, 10_000_000],
-        &[10_000_001, 16_777_215],
-        5,
-    ),
-    (
-        |b, v| b.mark = v as u64,
-        &[0, 1, 2_097_150, 2_097_151],
-        &[2_097_152, 4_294_967_295],
-        6,
-    ),
+    (|b, v| b.moves[0] = v, MOVE, LONG, 3),
+    (|b, v| b.moves[1] = v, MOVE, LONG, 3),
+    (|b, v| b.moves[2] = v, MOVE, LONG, 3),
+    (|b, v| b.feed = v as u64, FEED, NO_FEED, 4),
+    (|b, v| b.radius = v as u64, RADIUS, NO_RADIUS, 5),
+    (|b, v| b.mark = v as u64, MARK, NO_MARK, 6),
 ];
 
 /// The number of an answer; 0 says accepted.
@@ -81,7 +61,7 @@ fn number<T>(answer: Result<T, Refusal>) -> u64 {
     answer.map_or_else(|refusal| refusal.number(), |_| 0)
 }
 
-/// The number and the place of a tape, and whether its list was filled.
+/// The number and the place of a tape, planned in a list of a length.
 fn tape_number(bytes: &[u8], junctions: usize) -> (u64, u64) {
     let mut list = vec![77; junctions];
     match proved::plan_tape(bytes, &mut list) {
@@ -178,6 +158,7 @@ fn each_field_is_accepted_at_its_ends_and_refused_beyond() {
 /// of their ranges.
 #[test]
 fn fields_come_back_as_they_were() {
+    let mut count = 0;
     for seed in seeds(50) {
         let _trying = Trying::seed(seed);
         let mut rng = Rng::new(seed);
@@ -192,68 +173,59 @@ fn fields_come_back_as_they_were() {
                 let mut record = [7; RECORD_BYTES];
                 proved::write_record(&block, &mut record).expect("room");
                 assert_eq!(proved::read_record(&record), Ok(block), "seed {seed}");
+                count += 1;
             }
         }
     }
-    report(50 * 16, "fields at their ends, given out and read back");
+    report(count, "fields at their ends, given out and read back");
 }
 
-/// 7, 8, 9, 10 and 11 from each function that can give them, and the order
-/// where several hold.
+/// The numbers of a call for each of three lengths of what it is lent.
+fn by_length<T>(lengths: [usize; 3], call: impl Fn(usize) -> Result<T, Refusal>) -> [u64; 3] {
+    lengths.map(|length| number(call(length)))
+}
+
+/// 7, 8 and 11 from a planner that is empty, and that is full.
 #[test]
-fn fullness_and_lengths_give_their_numbers() {
-    let (good, bad) = (
-        machine_m(),
-        Limits {
-            tick: 99,
-            ..machine_m()
-        },
-    );
+fn empty_and_full_planners_give_their_numbers() {
     let blocks = straight_steps(first_seed(), 65);
-    let mut planner = Planner::fresh(&good).expect("machine M passes");
+    let mut planner = Planner::fresh(&machine_m()).expect("machine M passes");
+    let shown = |planner: &Planner, n| planner.shown(&mut vec![7; n]);
     assert_eq!(number(planner.take()), 8);
-    assert_eq!(
-        [0, 1, 2].map(|n| number(planner.shown(&mut vec![7; n]))),
-        [11, 0, 11]
-    );
+    assert_eq!(by_length([0, 1, 2], |n| shown(&planner, n)), [11, 0, 11]);
     let added: Vec<u64> = blocks.iter().map(|b| number(planner.add(b))).collect();
     assert_eq!(added, [vec![0; 64], vec![7]].concat());
-    assert_eq!(
-        [64, 65, 66].map(|n| number(planner.shown(&mut vec![7; n]))),
-        [11, 0, 11]
-    );
-    let (read, write) = (proved::read_limits, proved::write_limits);
+    assert_eq!(by_length([64, 65, 66], |n| shown(&planner, n)), [11, 0, 11]);
+    report(1 + 3 + 65 + 3, "numbers of empty and full planners");
+}
+
+/// 9 from readers, before the limits' 1, and from writers, after the fields'
+/// numbers.
+#[test]
+fn readers_and_writers_give_their_numbers() {
+    let good = machine_m();
+    let bad = Limits { tick: 99, ..good };
     let bytes = pack_limits(&bad, 0);
-    assert_eq!([0, 23, 24].map(|n| number(read(&bytes[..n]))), [9, 9, 1]);
+    let write = |limits, n| proved::write_limits(limits, &mut vec![7; n]);
+    let lengths = [0, 23, 24];
     assert_eq!(
-        [0, 23, 24].map(|n| number(write(&good, &mut vec![7; n]))),
-        [9, 9, 0]
+        by_length(lengths, |n| proved::read_limits(&bytes[..n])),
+        [9, 9, 1]
     );
+    assert_eq!(by_length(lengths, |n| write(&good, n)), [9, 9, 0]);
+    assert_eq!(by_length(lengths, |n| write(&bad, n)), [1, 1, 1]);
+    let block = straight_steps(first_seed(), 1)[0];
+    let slow = Block { feed: 0, ..block };
+    let record = pack_record(&slow);
+    let write = |block, n| proved::write_record(block, &mut vec![7; n]);
+    let lengths = [0, 15, 16];
     assert_eq!(
-        [0, 23, 24].map(|n| number(write(&bad, &mut vec![7; n]))),
-        [1, 1, 1]
+        by_length(lengths, |n| proved::read_record(&record[..n])),
+        [9, 9, 4]
     );
-    let (slow, record) = (
-        Block {
-            feed: 0,
-            ..blocks[0]
-        },
-        pack_record(&blocks[0]),
-    );
-    let write = proved::write_record;
-    assert_eq!(
-        [0, 15, 16].map(|n| number(proved::read_record(&record[..n]))),
-        [9, 9, 0]
-    );
-    assert_eq!(
-        [0, 15, 16].map(|n| number(write(&slow, &mut vec![7; n]))),
-        [4, 4, 4]
-    );
-    assert_eq!(
-        [0, 15, 16].map(|n| number(write(&blocks[0], &mut vec![7; n]))),
-        [9, 9, 0]
-    );
-    report(2 + 65 + 6 + 18, "numbers of fullness and lengths");
+    assert_eq!(by_length(lengths, |n| write(&block, n)), [9, 9, 0]);
+    assert_eq!(by_length(lengths, |n| write(&slow, n)), [4, 4, 4]);
+    report(6 * 3, "numbers of readers and writers");
 }
 
 /// The order of a tape's checks and of a trace's: 10, 9, 1, each record, 11;

@@ -21,8 +21,8 @@ fn accepted(rng: &mut Rng, count: usize) -> Vec<u8> {
     Tape { limits, blocks }.pack()
 }
 
-/// The number on the display, the place, and whether the list of `n` numbers
-/// stayed as it was.
+/// The number on the display, the place, and what a list of `n` numbers holds
+/// afterwards.
 fn answered(
     plan: impl Fn(&[u8], &mut [u64]) -> Result<(), Fault>,
     bytes: &[u8],
@@ -46,8 +46,8 @@ fn compare_in(seed: u64, bytes: &[u8], n: usize) -> (u64, u64) {
     known
 }
 
-/// Sees that the tape is refused by a number at a place, with no other word on
-/// it.
+/// Sees that the tape is refused by the number at the place where the test has
+/// put the fault.
 fn confirm_refused(seed: u64, bytes: &[u8], n: usize, expected: (u64, usize)) {
     let (number, place, list) = answered(proved::plan_tape, bytes, n);
     let input = || format!("{} in {n} numbers", hex(bytes));
@@ -65,7 +65,7 @@ fn each_place_of_the_longest_tape_is_told() {
         let mut rng = Rng::new(seed);
         let whole = accepted(&mut rng, MOST_BLOCKS);
         for place in 1..=MOST_BLOCKS {
-            let faults = TAPE_FAULTS[(place + seed as usize) % TAPE_FAULTS.len()];
+            let faults = TAPE_FAULTS[(place + (seed % 10) as usize) % TAPE_FAULTS.len()];
             let mut bytes = whole.clone();
             spoil_record(&mut rng, &mut bytes, place, faults);
             let n = rng.pick(&[MOST_BLOCKS + 1, MOST_BLOCKS + 1, MOST_BLOCKS, 0]);

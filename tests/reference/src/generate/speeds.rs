@@ -96,8 +96,9 @@ fn dressed(rng: &mut Rng, moves: [i64; 3], feed: u64) -> Block {
     }
 }
 
-/// Limits, and a path of `count` blocks at edge speeds on them: each block's
-/// speed is the feed's, or that of the axis whose limit is an edge.
+/// Limits of which one axis has an edge speed, and a path of `count` blocks
+/// whose feeds are edge speeds. Some follow one another unchanged, so that the
+/// plan has their reach.
 pub fn path_at_edges(rng: &mut Rng, count: usize) -> (Limits, Vec<Block>) {
     let edges = edge_speeds();
     let mut limits = limits(rng);
