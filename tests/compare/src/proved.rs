@@ -2,29 +2,43 @@
 //! that what is lent to be read stays as it was, and after a refusal every
 //! lent number and byte.
 
+use std::cell::Cell;
 use std::fmt::Debug;
 
 use reference::line::LookAhead;
 use reference::machine::{Block, Given, Limits};
 use reference::refusal::{Fault, Refusal};
+use reference::rng::Rng;
 
 use crate::guarded::Guarded;
 use crate::library::*;
 use crate::words::{answer_of, given_of, limit_words, limits_of};
 
-/// What lent numbers, bytes and guards hold before a call.
-const FILLER: u64 = 0xa5a5_5a5a_0ff0_f00f;
+/// What the guards beside lent numbers and bytes hold.
 const GUARD: u64 = 0x5eed_0000_dead_5eed;
 const BYTE_GUARD: u8 = 0xc3;
 
+thread_local! {
+    /// What lent numbers that a call may write hold before it.
+    static FILLER: Cell<u64> = const { Cell::new(0xa5a5_5a5a_0ff0_f00f) };
+}
+
+/// Has the lists that this thread lends from now on hold what a seed says: an
+/// end of the numbers, or noise.
+pub fn fill_with(seed: u64) {
+    let mut rng = Rng::new(!seed);
+    let noise = rng.word();
+    FILLER.set(rng.pick(&[0, 1, u64::MAX, noise, noise]));
+}
+
 /// A lent list of `count` numbers.
 fn numbers(count: usize) -> Guarded<u64> {
-    Guarded::new(&vec![FILLER; count], GUARD)
+    Guarded::new(&vec![FILLER.get(); count], GUARD)
 }
 
 /// A lent list of three moves.
 fn three_moves() -> Guarded<i64> {
-    Guarded::new(&[FILLER as i64; 3], GUARD as i64)
+    Guarded::new(&[FILLER.get() as i64; 3], GUARD as i64)
 }
 
 /// Sees that the guards stand and that a refused call changed nothing.
@@ -156,6 +170,16 @@ impl Planner {
         self.memory.list()
     }
 
+    /// A fresh planner on the memory, whatever it holds.
+    pub fn freshen(&mut self, limits: &Limits) -> Result<(), Refusal> {
+        let words = limit_words(limits);
+        let mut source = Guarded::new(&words, GUARD);
+        let lent = source.lend();
+        let number = self.call(|memory| unsafe { fullerecru_fresh(memory, lent) });
+        source.confirm_only_read(&words);
+        answer_of(number)
+    }
+
     /// Runs a call that may write the memory.
     fn call(&mut self, run: impl FnOnce(*mut u64) -> u64) -> u64 {
         let before = self.memory.list().to_vec();
@@ -176,13 +200,8 @@ impl Planner {
 
 impl LookAhead for Planner {
     fn fresh(limits: &Limits) -> Result<Planner, Refusal> {
-        let mut planner = Planner::of_memory(&[FILLER; NUMBERS]);
-        let words = limit_words(limits);
-        let mut source = Guarded::new(&words, GUARD);
-        let lent = source.lend();
-        let number = planner.call(|memory| unsafe { fullerecru_fresh(memory, lent) });
-        source.confirm_only_read(&words);
-        answer_of(number).map(|()| planner)
+        let mut planner = Planner::of_memory(&[FILLER.get(); NUMBERS]);
+        planner.freshen(limits).map(|()| planner)
     }
 
     fn add(&mut self, block: &Block) -> Result<(), Refusal> {

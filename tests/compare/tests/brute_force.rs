@@ -2,7 +2,7 @@
 //! gives is one of them, and none of them is above it anywhere.
 
 use compare::proved::{self, Planner};
-use compare::{report, Trying};
+use compare::{report, seeds, Trying};
 use reference::generate::{tiny_block, tiny_limits};
 use reference::line::{Line, LookAhead};
 use reference::plan::{every_lawful, Course};
@@ -33,8 +33,8 @@ fn confirm(seed: u64, course: &Course, plan: &[u64]) -> usize {
 #[test]
 fn no_lawful_profile_is_above_the_plan_shown() {
     let (mut lines, mut profiles, mut moving) = (0, 0, 0);
-    for seed in 0..2_000 {
-        let _trying = Trying(seed);
+    for seed in seeds(2_000) {
+        let _trying = Trying::seed(seed);
         let mut rng = Rng::new(seed);
         let limits = tiny_limits(&mut rng);
         let mut proved = Planner::fresh(&limits).expect("limits that pass");
@@ -61,8 +61,8 @@ fn no_lawful_profile_is_above_the_plan_shown() {
 #[test]
 fn no_lawful_profile_is_above_a_tapes_plan() {
     let mut profiles = 0;
-    for seed in 0..4_000 {
-        let _trying = Trying(seed);
+    for seed in seeds(4_000) {
+        let _trying = Trying::seed(seed);
         let mut rng = Rng::new(seed);
         let limits = tiny_limits(&mut rng);
         let count = rng.within(0, MOST as u64) as usize;

@@ -4,8 +4,8 @@ use std::collections::BTreeSet;
 
 use compare::library::NUMBERS;
 use compare::proved::Planner;
-use compare::words::{any_block, any_limits, any_word};
-use compare::{hex, report, same, Trying};
+use compare::words::{any_block, any_limits};
+use compare::{hex, report, same, seeds, Trying};
 use reference::generate::*;
 use reference::incremental;
 use reference::line::{Line, LookAhead};
@@ -57,8 +57,8 @@ fn compare_with<P: LookAhead>(seed: u64, limits: &Limits, calls: &[Call]) -> BTr
 #[test]
 fn every_call_is_answered_as_the_line_of_blocks_says() {
     let (mut met, mut count) = (BTreeSet::new(), 0);
-    for seed in 0..3_000 {
-        let _trying = Trying(seed);
+    for seed in seeds(3_000) {
+        let _trying = Trying::seed(seed);
         let mut rng = Rng::new(seed);
         let limits = limits(&mut rng);
         let length = rng.within(1, 300) as usize;
@@ -74,8 +74,8 @@ fn every_call_is_answered_as_the_line_of_blocks_says() {
 #[test]
 fn long_runs_are_answered_as_the_other_planner_answers() {
     let mut count = 0;
-    for seed in 0..8 {
-        let _trying = Trying(seed);
+    for seed in seeds(8) {
+        let _trying = Trying::seed(seed);
         let mut rng = Rng::new(seed);
         let limits = limits(&mut rng);
         let calls = calls(&mut rng, 60_000);
@@ -89,25 +89,49 @@ fn long_runs_are_answered_as_the_other_planner_answers() {
 #[test]
 fn each_number_of_blocks_held_gives_the_same_speeds() {
     let mut count = 0;
-    for held in 1..=64 {
-        let _trying = Trying(held);
-        for blocks in [short_steps(held, 300), straight_steps(held, 300)] {
-            let (first, rest) = blocks.split_at(held as usize);
+    for (held, seed) in (1..=64).zip(seeds(64)) {
+        let _trying = Trying::seed(seed);
+        for blocks in [short_steps(seed, 300), straight_steps(seed, 300)] {
+            let (first, rest) = blocks.split_at(held);
             let mut list: Vec<Call> = first.iter().map(|b| Call::Add(*b)).collect();
             list.extend(rest.iter().flat_map(|b| [Call::Take, Call::Add(*b)]));
             count += list.len();
-            compare_with::<Line>(held, &machine_m(), &list);
+            compare_with::<Line>(seed, &machine_m(), &list);
         }
     }
     report(count, "calls with 1 to 64 held");
+}
+
+/// A planner is filled past 64 blocks and emptied past its last, over and over,
+/// from each of its places on.
+#[test]
+fn full_and_empty_planners_are_answered_as_the_line_of_blocks_says() {
+    let mut count = 0;
+    for seed in seeds(64) {
+        let _trying = Trying::seed(seed);
+        let mut rng = Rng::new(seed);
+        let (limits, turns) = (limits(&mut rng), (seed % 64) as usize);
+        let mut list = Vec::new();
+        for block in path(&mut rng, turns) {
+            list.extend([Call::Add(block), Call::Take]);
+        }
+        for _ in 0..2 {
+            list.extend(path(&mut rng, 66).into_iter().map(Call::Add));
+            list.extend([Call::Take; 66]);
+        }
+        count += list.len();
+        let met = compare_with::<Line>(seed, &limits, &list);
+        assert_eq!(met, BTreeSet::from([0, 7, 8]), "seed {seed}");
+    }
+    report(count, "calls of full and empty planners");
 }
 
 /// Limits at and beyond the ends of their ranges, and of any words.
 #[test]
 fn fresh_planners_are_made_from_the_same_limits() {
     let mut made = 0;
-    for seed in 0..20_000 {
-        let _trying = Trying(seed);
+    for seed in seeds(20_000) {
+        let _trying = Trying::seed(seed);
         let mut rng = Rng::new(seed);
         let limits = match rng.below(4) {
             0 => any_limits(&mut rng),
@@ -132,8 +156,8 @@ fn fresh_planners_are_made_from_the_same_limits() {
 #[test]
 fn adds_of_any_words_are_answered_alike() {
     let mut count = 0;
-    for seed in 0..200 {
-        let _trying = Trying(seed);
+    for seed in seeds(200) {
+        let _trying = Trying::seed(seed);
         let mut rng = Rng::new(seed);
         let mut proved = Planner::fresh(&machine_m()).expect("machine M passes");
         let mut line = Line::fresh(&machine_m()).expect("machine M passes");
@@ -157,8 +181,8 @@ fn adds_of_any_words_are_answered_alike() {
 #[test]
 fn planners_do_not_disturb_one_another() {
     let mut count = 0;
-    for seed in 0..100 {
-        let _trying = Trying(seed);
+    for seed in seeds(100) {
+        let _trying = Trying::seed(seed);
         let mut rng = Rng::new(seed);
         let both = [limits(&mut rng), limits(&mut rng)];
         let lists = [calls(&mut rng, 200), calls(&mut rng, 200)];
@@ -176,32 +200,4 @@ fn planners_do_not_disturb_one_another() {
         }
     }
     report(count, "calls on two planners");
-}
-
-/// On memory that no planner made, every call returns a number of its own and
-/// writes nothing beside what is lent; 0 to 64 blocks are told, and their plan
-/// is shown.
-#[test]
-fn memory_of_noise_is_no_danger() {
-    let mut count = 0;
-    for seed in 0..4_000 {
-        let _trying = Trying(seed);
-        let mut rng = Rng::new(seed);
-        let memory = [(); NUMBERS].map(|_| any_word(&mut rng));
-        let mut planner = Planner::of_memory(&memory);
-        for call in calls(&mut rng, 20) {
-            let refused = answer(&mut planner, &call).err().map(|r| r.number());
-            let own = match call {
-                Call::Take => refused.is_none_or(|number| number == 8),
-                Call::Add(_) => refused.is_none_or(|number| (2..=7).contains(&number)),
-            };
-            assert!(own, "seed {seed}: {call:?} refused by {refused:?}");
-            let held = planner.told();
-            assert!(held <= 64, "seed {seed}: {held} told");
-            let shown = plan(&planner, held + 1).0;
-            assert_eq!(shown, Ok(()), "seed {seed}");
-            count += 1;
-        }
-    }
-    report(count, "calls on memory of noise");
 }

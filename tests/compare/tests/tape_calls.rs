@@ -3,7 +3,7 @@
 use std::collections::BTreeSet;
 
 use compare::words::{any_block, any_limits, limit_words};
-use compare::{hex, proved, report, same, Trying};
+use compare::{hex, proved, report, same, seeds, Trying};
 use reference::generate::*;
 use reference::machine::{Block, Limits};
 use reference::rng::Rng;
@@ -65,8 +65,8 @@ impl Met {
 #[test]
 fn limits_are_read_as_the_reference_reads_them() {
     let mut met = Met::default();
-    for seed in 0..SEEDS {
-        let _trying = Trying(seed);
+    for seed in seeds(SEEDS) {
+        let _trying = Trying::seed(seed);
         let mut rng = Rng::new(seed);
         let bytes = match rng.below(8) {
             0 => noise(&mut rng, 48),
@@ -89,8 +89,8 @@ fn limits_are_read_as_the_reference_reads_them() {
 #[test]
 fn records_are_read_as_the_reference_reads_them() {
     let mut met = Met::default();
-    for seed in 0..SEEDS {
-        let _trying = Trying(seed);
+    for seed in seeds(SEEDS) {
+        let _trying = Trying::seed(seed);
         let mut rng = Rng::new(seed);
         let bytes = match rng.below(4) {
             0 => noise(&mut rng, 32),
@@ -113,8 +113,8 @@ fn records_are_read_as_the_reference_reads_them() {
 #[test]
 fn limits_are_written_as_the_reference_writes_them() {
     let mut met = Met::default();
-    for seed in 0..SEEDS {
-        let _trying = Trying(seed);
+    for seed in seeds(SEEDS) {
+        let _trying = Trying::seed(seed);
         let mut rng = Rng::new(seed);
         let limits = some_limits(&mut rng);
         let mut expected_part = noise(&mut rng, 40);
@@ -141,8 +141,8 @@ fn limits_are_written_as_the_reference_writes_them() {
 #[test]
 fn records_are_written_as_the_reference_writes_them() {
     let mut met = Met::default();
-    for seed in 0..SEEDS {
-        let _trying = Trying(seed);
+    for seed in seeds(SEEDS) {
+        let _trying = Trying::seed(seed);
         let mut rng = Rng::new(seed);
         let block = some_block(&mut rng, false);
         let mut expected_part = noise(&mut rng, 32);
@@ -170,8 +170,8 @@ fn records_are_written_as_the_reference_writes_them() {
 #[test]
 fn refusals_come_in_document_01s_order() {
     let mut count = 0;
-    for seed in 0..40 {
-        let _trying = Trying(seed);
+    for seed in seeds(40) {
+        let _trying = Trying::seed(seed);
         let mut rng = Rng::new(seed);
         for faults in BLOCK_FAULTS {
             for lent in [0, RECORD_BYTES - 1, RECORD_BYTES, RECORD_BYTES + 1] {
@@ -204,8 +204,8 @@ fn refusals_come_in_document_01s_order() {
 
 #[test]
 fn what_is_written_is_read_back_whole() {
-    for seed in 0..SEEDS {
-        let _trying = Trying(seed);
+    for seed in seeds(SEEDS) {
+        let _trying = Trying::seed(seed);
         let mut rng = Rng::new(seed);
         let (block, limits) = (block(&mut rng), limits(&mut rng));
         let mut part = [0xa5; 30];

@@ -2,7 +2,7 @@
 
 use std::collections::BTreeSet;
 
-use compare::{hex, proved, report, same, Trying};
+use compare::{first_seed, hex, proved, report, same, seeds, Trying};
 use reference::examples::{example, NAMES};
 use reference::generate::{faulty_tape, machine_m, short_steps, straight_steps, tape};
 use reference::refusal::Fault;
@@ -42,8 +42,8 @@ fn compare_both(seed: u64, rng: &mut Rng, bytes: &[u8]) -> [u64; 2] {
 #[test]
 fn accepted_tapes_have_the_same_plan() {
     let (mut met, mut count) = (BTreeSet::new(), 0);
-    for seed in 0..4_000 {
-        let _trying = Trying(seed);
+    for seed in seeds(4_000) {
+        let _trying = Trying::seed(seed);
         let mut rng = Rng::new(seed);
         let bytes = tape(&mut rng);
         met.extend(compare_both(seed, &mut rng, &bytes));
@@ -58,8 +58,8 @@ fn accepted_tapes_have_the_same_plan() {
 #[test]
 fn faulty_tapes_have_the_same_refusal_and_place() {
     let (mut met, mut count) = (BTreeSet::new(), 0);
-    for seed in 0..8_000 {
-        let _trying = Trying(seed);
+    for seed in seeds(8_000) {
+        let _trying = Trying::seed(seed);
         let mut rng = Rng::new(seed);
         let bytes = faulty_tape(&mut rng);
         met.extend(compare_both(seed, &mut rng, &bytes));
@@ -72,16 +72,17 @@ fn faulty_tapes_have_the_same_refusal_and_place() {
 /// Each length of an accepted tape, byte by byte, and around the longest.
 #[test]
 fn cut_and_lengthened_tapes_are_answered_alike() {
-    let blocks = short_steps(7, MOST_BLOCKS + 2);
+    let blocks = short_steps(first_seed(), MOST_BLOCKS + 2);
     let limits = machine_m();
     let bytes = Tape { limits, blocks }.pack();
     let most = 24 + 16 * MOST_BLOCKS;
-    let lengths = (0..200).chain(most - 40..=most + 32);
+    let lengths: Vec<usize> = (0..200).chain(most - 40..=most + 32).collect();
     let mut count = 0;
-    for length in lengths {
+    for (length, seed) in lengths.iter().zip(seeds(lengths.len() as u64)) {
+        let _trying = Trying::seed(seed);
         let right = length.saturating_sub(24) / 16 + 1;
         for n in [right, right - 1, right + 1] {
-            compare_in(length as u64, &bytes[..length], n);
+            compare_in(seed, &bytes[..*length], n);
             count += 1;
         }
     }
@@ -91,14 +92,19 @@ fn cut_and_lengthened_tapes_are_answered_alike() {
 #[test]
 fn examples_and_longest_tapes_have_the_same_plan() {
     let mut tapes: Vec<Tape> = NAMES.iter().filter_map(|name| example(name)).collect();
-    for blocks in [short_steps(1, MOST_BLOCKS), straight_steps(1, MOST_BLOCKS)] {
+    let first = first_seed();
+    for blocks in [
+        short_steps(first, MOST_BLOCKS),
+        straight_steps(first, MOST_BLOCKS),
+    ] {
         let limits = machine_m();
         tapes.push(Tape { limits, blocks });
     }
-    for (k, tape) in tapes.iter().enumerate() {
+    for (tape, seed) in tapes.iter().zip(seeds(tapes.len() as u64)) {
+        let _trying = Trying::seed(seed);
         let bytes = tape.pack();
         assert_eq!(read_tape(&bytes).as_ref(), Ok(tape));
-        assert_eq!(compare_in(k as u64, &bytes, tape.blocks.len() + 1), 0);
+        assert_eq!(compare_in(seed, &bytes, tape.blocks.len() + 1), 0);
     }
     report(tapes.len(), "example and longest tapes");
 }

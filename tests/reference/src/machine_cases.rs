@@ -114,6 +114,7 @@ pub fn cases() -> Vec<Case> {
     all.extend(limit_ends());
     all.extend(block_ends());
     all.extend(torque_steps());
+    all.extend(torque_edges());
     all.extend(small_blocks());
     all.extend(faults(&mut rng));
     all.extend((0..150).map(|_| along_a_path(&mut rng)));
@@ -241,6 +242,37 @@ fn torque_steps() -> Vec<Case> {
     let fast = |feed| Block { feed, ..east() };
     let step = |k: u64| on_m(fast(125_000 * k), fast((125_000 * k + 1).min(1_000_000)));
     (1..=8).map(step).collect()
+}
+
+/// The two last speeds of each torque step and the two first of the next:
+/// oblique by the feed, and straight by the limit of an axis.
+fn torque_edges() -> Vec<Case> {
+    let oblique = |feed| Block {
+        feed,
+        ..block(300, -400, 1_200)
+    };
+    let along = |axis: usize, feed| {
+        let mut straight = Block {
+            feed,
+            ..block(0, 0, 0)
+        };
+        straight.moves[axis] = -2_500;
+        straight
+    };
+    let limited = |limit, before, after| {
+        let mut case = on_m(along(1, before), along(0, after));
+        case.limits.speed[1] = limit;
+        case
+    };
+    let edge = |last: u64| {
+        [
+            on_m(oblique(last - 1), oblique(last + 2)),
+            on_m(oblique(last), oblique(last + 1)),
+            limited(last, last + 1, last + 1),
+            limited(last + 1, 1_000_000, last - 1),
+        ]
+    };
+    (1..8).flat_map(|step| edge(125_000 * step)).collect()
 }
 
 /// Blocks so short that a dropped fraction decides, and a corner cap of 0.

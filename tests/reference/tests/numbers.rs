@@ -1,6 +1,6 @@
 //! The numbers found by search are the largest, and those by division agree.
 
-use reference::generate::{limits, path};
+use reference::generate::{block_of_speed, edge_speeds, limits, path, Cause, Way, CAUSES, WAYS};
 use reference::machine::*;
 use reference::quick;
 use reference::rng::Rng;
@@ -45,6 +45,25 @@ fn speed_and_acceleration_are_the_largest() {
         assert!(!over(numbers.accel, &limits.accel));
         if torque_percent(torque_step(numbers.speed)) == 100 {
             assert!(over(numbers.accel + 1, &limits.accel));
+        }
+    }
+}
+
+/// Blocks made for a speed have it, on the axes and by the cause asked for.
+#[test]
+fn edge_speeds_are_met() {
+    let mut rng = Rng::new(0);
+    for speed in edge_speeds() {
+        for (way, cause) in WAYS
+            .iter()
+            .flat_map(|way| CAUSES.map(|cause| (*way, cause)))
+        {
+            let (limits, block) = block_of_speed(&mut rng, speed, way, cause);
+            let moving = block.moves.iter().filter(|m| **m != 0).count();
+            assert_eq!(Numbers::of(&limits, &block).speed, speed);
+            assert_eq!(moving == 1, way == Way::Straight);
+            assert!(cause == Cause::Feed || block.feed > speed || speed == 1_000_000);
+            assert_eq!(check_limits(&limits), Ok(()));
         }
     }
 }

@@ -3,6 +3,7 @@
 mod blocks;
 mod calls;
 mod limits;
+mod speeds;
 mod tapes;
 
 pub use blocks::{
@@ -10,4 +11,5 @@ pub use blocks::{
 };
 pub use calls::{calls, trace};
 pub use limits::{faulty_limits, limits, machine_m, tiny_limits};
-pub use tapes::{faulty_tape, tape};
+pub use speeds::{block_of_speed, edge_speeds, path_at_edges, Cause, Way, CAUSES, WAYS};
+pub use tapes::{faulty_tape, set_last_bit, spoil_record, tape, TAPE_FAULTS};

@@ -5,6 +5,20 @@ use super::limits::{faulty_limits, limits};
 use crate::rng::Rng;
 use crate::tape::{pack_limits, pack_record, Tape, LIMITS_BYTES, MOST_BLOCKS, RECORD_BYTES};
 
+/// Sets of refusals that one record of a tape can meet at once.
+pub const TAPE_FAULTS: [&[u64]; 10] = [
+    &[2],
+    &[3],
+    &[4],
+    &[5],
+    &[2, 4],
+    &[2, 5],
+    &[3, 4],
+    &[3, 5],
+    &[4, 5],
+    &[3, 4, 5],
+];
+
 /// Bytes of an accepted tape of 0 to 200 blocks, at times of 2,047 or 2,048.
 pub fn tape(rng: &mut Rng) -> Vec<u8> {
     let count = match rng.below(64) {
@@ -69,15 +83,20 @@ fn spoil(rng: &mut Rng, bytes: &mut [u8]) {
         _ => {
             let k = rng.below(records as u64) as usize;
             let faults = rng.pick(&BLOCK_FAULTS);
-            let record = pack_record(&faulty_block(rng, faults, true));
-            let first = LIMITS_BYTES + RECORD_BYTES * k;
-            bytes[first..first + RECORD_BYTES].copy_from_slice(&record);
+            spoil_record(rng, bytes, k + 1, faults);
         }
     }
 }
 
+/// Makes the record at a place counted from 1 meet each refusal of the set.
+pub fn spoil_record(rng: &mut Rng, bytes: &mut [u8], place: usize, faults: &[u64]) {
+    let record = pack_record(&faulty_block(rng, faults, true));
+    let end = LIMITS_BYTES + RECORD_BYTES * place;
+    bytes[end - RECORD_BYTES..end].copy_from_slice(&record);
+}
+
 /// Sets one of the 13 bits that must be zero.
-fn set_last_bit(rng: &mut Rng, bytes: &mut [u8]) {
+pub fn set_last_bit(rng: &mut Rng, bytes: &mut [u8]) {
     let bit = rng.within(179, 191) as usize;
     bytes[bit / 8] |= 0x80 >> (bit % 8);
 }

@@ -1,0 +1,265 @@
+//! Each number on the display from each function that can give it, and each
+//! field of limits and blocks at both ends of its range and one beyond.
+//!
+//! The numbers stand here as the README's table and the header have them: they
+//! are not the reference's.
+
+use compare::library::{PLAN, ROW};
+use compare::proved::{self, Planner};
+use compare::{first_seed, report, seeds, Trying};
+use reference::generate::{block, limits, machine_m, straight_steps};
+use reference::line::LookAhead;
+use reference::machine::{Block, Limits};
+use reference::refusal::Refusal;
+use reference::rng::Rng;
+use reference::tape::{pack_limits, pack_record, LIMITS_BYTES, RECORD_BYTES};
+use reference::trace::{pack_trace, Call};
+
+/// A field of the limits and its ends.
+type LimitEnds = (fn(&mut Limits) -> &mut u64, u64, u64);
+
+/// The limits in their order.
+const LIMITS: [LimitEnds; 9] = [
+    (|l| &mut l.accel[0], 1, 20_000_000),
+    (|l| &mut l.accel[1], 1, 20_000_000),
+    (|l| &mut l.accel[2], 1, 20_000_000),
+    (|l| &mut l.speed[0], 1, 1_000_000),
+    (|l| &mut l.speed[1], 1, 1_000_000),
+    (|l| &mut l.speed[2], 1, 1_000_000),
+    (|l| &mut l.jump, 1, 1_000_000),
+    (|l| &mut l.chord, 1, 1_000),
+    (|l| &mut l.tick, 100, 10_000),
+];
+
+/// A field of a block, values at the ends of its range, values beyond, and the
+/// number that these give.
+type FieldEnds = (fn(&mut Block, i64), &'static [i64], &'static [i64], u64);
+
+/// Values at the ends of each field's range, and beyond it, up to the greatest
+/// number that the field has on tape; a mark's beyond is none of the tape's.
+const MOVE: &[i64] = &[-1_000_000, 1_000_000];
+const LONG: &[i64] = &[-1_000_001, 1_000_001, -1_048_576, 1_048_575];
+const FEED: &[i64] = &[1, 2, 999_999, 1_000_000];
+const NO_FEED: &[i64] = &[0, 1_000_001, 1_048_575];
+const RADIUS: &[i64] = &[0, 1, 9_999_999, 10_000_000];
+const NO_RADIUS: &[i64] = &[10_000_001, 16_777_215];
+const MARK: &[i64] = &[0, 1, 2_097_150, 2_097_151];
+const NO_MARK: &[i64] = &[2_097_152, 4_294_967_295];
+
+/// The fields of a block.
+const FIELDS: [FieldEnds; 6] = [
+    (|b, v| b.moves[0] = v, MOVE, LONG, 3),
+    (|b, v| b.moves[1] = v, MOVE, LONG, 3),
+    (|b, v| b.moves[2] = v, MOVE, LONG, 3),
+    (|b, v| b.feed = v as u64, FEED, NO_FEED, 4),
+    (|b, v| b.radius = v as u64, RADIUS, NO_RADIUS, 5),
+    (|b, v| b.mark = v as u64, MARK, NO_MARK, 6),
+];
+
+/// The number of an answer; 0 says accepted.
+fn number<T>(answer: Result<T, Refusal>) -> u64 {
+    answer.map_or_else(|refusal| refusal.number(), |_| 0)
+}
+
+/// The number and the place of a tape, planned in a list of a length.
+fn tape_number(bytes: &[u8], junctions: usize) -> (u64, u64) {
+    let mut list = vec![77; junctions];
+    match proved::plan_tape(bytes, &mut list) {
+        Ok(()) => (0, 0),
+        Err(fault) => (fault.refusal.number(), fault.place),
+    }
+}
+
+/// The number of a trace, and those of its rows.
+fn trace_numbers(bytes: &[u8], numbers: usize, junctions: usize) -> (u64, Vec<u64>) {
+    let mut rows = vec![77; numbers];
+    let answer = proved::replay(bytes, &mut rows, &mut vec![88; junctions]);
+    (number(answer), rows.iter().step_by(ROW).copied().collect())
+}
+
+/// The numbers that the functions which take limits give: fresh, a writer, a
+/// reader, a tape and a trace.
+fn limits_numbers(limits: &Limits) -> [u64; 5] {
+    let bytes = pack_limits(limits, 0);
+    [
+        number(Planner::fresh(limits)),
+        number(proved::write_limits(limits, &mut [7; LIMITS_BYTES])),
+        number(proved::read_limits(&bytes)),
+        tape_number(&bytes, 1).0,
+        trace_numbers(&bytes, 0, PLAN).0,
+    ]
+}
+
+#[test]
+fn each_limit_is_accepted_at_its_ends_and_refused_beyond() {
+    let mut count = 0;
+    for seed in seeds(50) {
+        let _trying = Trying::seed(seed);
+        let mut rng = Rng::new(seed);
+        for (field, low, high) in LIMITS {
+            let passing = [(low, 0), (low + 1, 0), (high - 1, 0), (high, 0)];
+            for (value, expected) in passing.into_iter().chain([(low - 1, 1), (high + 1, 1)]) {
+                let mut limits = limits(&mut rng);
+                *field(&mut limits) = value;
+                assert_eq!(limits_numbers(&limits), [expected; 5], "{limits:?}");
+                count += 5;
+            }
+        }
+    }
+    report(count, "limits at their ends");
+}
+
+/// The number that a block gives to an add, a writer and a trace; and to a
+/// reader and a tape, which have no mark that is too large.
+fn block_numbers(block: &Block) -> ([u64; 3], Option<[u64; 2]>) {
+    let mut planner = Planner::fresh(&machine_m()).expect("machine M passes");
+    let record = pack_record(block);
+    let tape = [pack_limits(&machine_m(), 0), record.clone()].concat();
+    let trace = pack_trace(&machine_m(), &[Call::Add(*block)]);
+    let numbers = [
+        number(planner.add(block)),
+        number(proved::write_record(block, &mut [7; RECORD_BYTES])),
+        trace_numbers(&trace, ROW, PLAN).1[0],
+    ];
+    let (of_tape, place) = tape_number(&tape, 2);
+    assert_eq!(place, u64::from(of_tape != 0), "{block:?}");
+    let on_tape = [number(proved::read_record(&record)), of_tape];
+    (numbers, (block.mark < 1 << 21).then_some(on_tape))
+}
+
+#[test]
+fn each_field_is_accepted_at_its_ends_and_refused_beyond() {
+    let mut count = 0;
+    for seed in seeds(50) {
+        let _trying = Trying::seed(seed);
+        let mut rng = Rng::new(seed);
+        for (set, within, beyond, refusal) in FIELDS {
+            let beyond = beyond.iter().map(|value| (*value, refusal));
+            for (value, expected) in within.iter().map(|value| (*value, 0)).chain(beyond) {
+                let mut block = block(&mut rng);
+                set(&mut block, value);
+                let (numbers, on_tape) = block_numbers(&block);
+                assert_eq!(numbers, [expected; 3], "{block:?}");
+                let on_tape = on_tape.unwrap_or([expected; 2]);
+                assert_eq!(on_tape, [expected; 2], "{block:?}");
+                count += 5;
+            }
+        }
+        let still = Block {
+            moves: [0; 3],
+            ..block(&mut rng)
+        };
+        assert_eq!(block_numbers(&still), ([2; 3], Some([2; 2])), "{still:?}");
+    }
+    report(count, "fields at their ends");
+}
+
+/// A block that passes is given out with its fields as they came, at both ends
+/// of their ranges.
+#[test]
+fn fields_come_back_as_they_were() {
+    let mut count = 0;
+    for seed in seeds(50) {
+        let _trying = Trying::seed(seed);
+        let mut rng = Rng::new(seed);
+        for (set, within, _, _) in FIELDS {
+            for value in within {
+                let mut block = block(&mut rng);
+                set(&mut block, *value);
+                let mut planner = Planner::fresh(&limits(&mut rng)).expect("limits that pass");
+                planner.add(&block).expect("a block that passes");
+                let given = planner.take().expect("a block held");
+                assert_eq!(given.block, block, "seed {seed}");
+                let mut record = [7; RECORD_BYTES];
+                proved::write_record(&block, &mut record).expect("room");
+                assert_eq!(proved::read_record(&record), Ok(block), "seed {seed}");
+                count += 1;
+            }
+        }
+    }
+    report(count, "fields at their ends, given out and read back");
+}
+
+/// The numbers of a call for each of three lengths of what it is lent.
+fn by_length<T>(lengths: [usize; 3], call: impl Fn(usize) -> Result<T, Refusal>) -> [u64; 3] {
+    lengths.map(|length| number(call(length)))
+}
+
+/// 7, 8 and 11 from a planner that is empty, and that is full.
+#[test]
+fn empty_and_full_planners_give_their_numbers() {
+    let blocks = straight_steps(first_seed(), 65);
+    let mut planner = Planner::fresh(&machine_m()).expect("machine M passes");
+    let shown = |planner: &Planner, n| planner.shown(&mut vec![7; n]);
+    assert_eq!(number(planner.take()), 8);
+    assert_eq!(by_length([0, 1, 2], |n| shown(&planner, n)), [11, 0, 11]);
+    let added: Vec<u64> = blocks.iter().map(|b| number(planner.add(b))).collect();
+    assert_eq!(added, [vec![0; 64], vec![7]].concat());
+    assert_eq!(by_length([64, 65, 66], |n| shown(&planner, n)), [11, 0, 11]);
+    report(1 + 3 + 65 + 3, "numbers of empty and full planners");
+}
+
+/// 9 from readers, before the limits' 1, and from writers, after the fields'
+/// numbers.
+#[test]
+fn readers_and_writers_give_their_numbers() {
+    let good = machine_m();
+    let bad = Limits { tick: 99, ..good };
+    let bytes = pack_limits(&bad, 0);
+    let write = |limits, n| proved::write_limits(limits, &mut vec![7; n]);
+    let lengths = [0, 23, 24];
+    assert_eq!(
+        by_length(lengths, |n| proved::read_limits(&bytes[..n])),
+        [9, 9, 1]
+    );
+    assert_eq!(by_length(lengths, |n| write(&good, n)), [9, 9, 0]);
+    assert_eq!(by_length(lengths, |n| write(&bad, n)), [1, 1, 1]);
+    let block = straight_steps(first_seed(), 1)[0];
+    let slow = Block { feed: 0, ..block };
+    let record = pack_record(&slow);
+    let write = |block, n| proved::write_record(block, &mut vec![7; n]);
+    let lengths = [0, 15, 16];
+    assert_eq!(
+        by_length(lengths, |n| proved::read_record(&record[..n])),
+        [9, 9, 4]
+    );
+    assert_eq!(by_length(lengths, |n| write(&block, n)), [9, 9, 0]);
+    assert_eq!(by_length(lengths, |n| write(&slow, n)), [4, 4, 4]);
+    report(6 * 3, "numbers of readers and writers");
+}
+
+/// The order of a tape's checks and of a trace's: 10, 9, 1, each record, 11;
+/// and 9, 1, 11.
+#[test]
+fn tapes_and_traces_give_their_numbers() {
+    let (good, bad) = (pack_limits(&machine_m(), 0), pack_limits(&machine_m(), 1));
+    let record = pack_record(&straight_steps(first_seed(), 1)[0]);
+    let still = [0; RECORD_BYTES];
+    let whole = |limits: &[u8], last: &[u8]| [limits, &record, &record, last].concat();
+    let long = |limits: &[u8]| [limits, &still.repeat(2_049)].concat();
+    assert_eq!(tape_number(&long(&bad), 0), (10, 0));
+    assert_eq!(tape_number(&long(&bad)[..32_792], 0), (1, 0));
+    assert_eq!(tape_number(&long(&bad)[..32_791], 0), (9, 0));
+    assert_eq!(tape_number(&long(&good)[..32_792], 0), (2, 1));
+    assert_eq!(tape_number(&whole(&bad, &still[1..]), 0), (9, 0));
+    assert_eq!(tape_number(&whole(&bad, &still), 0), (1, 0));
+    assert_eq!(tape_number(&whole(&good, &still), 0), (2, 3));
+    assert_eq!(tape_number(&whole(&good, &record), 3), (11, 0));
+    assert_eq!(tape_number(&whole(&good, &record), 4), (0, 0));
+    let blocks = straight_steps(first_seed(), 65);
+    let calls: Vec<Call> = blocks
+        .iter()
+        .map(|b| Call::Add(*b))
+        .chain([Call::Take; 65])
+        .collect();
+    let trace = pack_trace(&machine_m(), &calls);
+    let faulty = [&bad, &trace[LIMITS_BYTES..]].concat();
+    let rows = 130 * ROW;
+    assert_eq!(trace_numbers(&faulty[1..], 0, 0).0, 9);
+    assert_eq!(trace_numbers(&faulty, 0, 0).0, 1);
+    assert_eq!(trace_numbers(&trace, rows - ROW, PLAN).0, 11);
+    assert_eq!(trace_numbers(&trace, rows, PLAN - 1).0, 11);
+    let expected = [vec![0; 64], vec![7], vec![0; 64], vec![8]].concat();
+    assert_eq!(trace_numbers(&trace, rows, PLAN), (0, expected));
+    report(9 + 5, "numbers of tapes and traces");
+}

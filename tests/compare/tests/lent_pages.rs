@@ -1,0 +1,206 @@
+//! Every function of include/fullerecru.h with every list that it is lent lying
+//! flush against a page that can be neither read nor written: at its end in one
+//! run, at its begin in the other. Lists have every length, 0 among them.
+//!
+//! A read or a write beside a list ends the process by SIGSEGV, after the word
+//! GUARD and how far beside lent memory it was; cargo then names this file.
+
+use compare::guarded::{lend_at, Side, SIDES};
+use compare::library::{PLAN, ROW};
+use compare::proved::{self, Planner};
+use compare::traces::{self, rows};
+use compare::{hex, report, same, seeds, Trying};
+use reference::generate::*;
+use reference::line::{Line, LookAhead, PLACES};
+use reference::machine::{Block, Limits};
+use reference::quick;
+use reference::rng::Rng;
+use reference::tape::{self, pack_limits, pack_record, Tape, LIMITS_BYTES, MOST_BLOCKS};
+use reference::trace::{pack_trace, CALL_BYTES};
+
+/// Runs once at each side, with a seed and numbers of its own.
+fn at_both_sides(run: impl Fn(u64, &mut Rng, Side)) {
+    for seed in seeds(1) {
+        let _trying = Trying::seed(seed);
+        for side in SIDES {
+            lend_at(side);
+            run(seed, &mut Rng::new(seed), side);
+        }
+    }
+}
+
+/// Told, and shown in lists of each length from 0 to 66.
+fn compare_held(seed: u64, proved: &Planner, line: &Line, side: Side) {
+    let input = || format!("{side:?} {line:?}");
+    same(seed, input, proved.told(), line.told());
+    for length in 0..=PLACES + 2 {
+        let (mut plan, mut expected) = (vec![77; length], vec![77; length]);
+        let answers = (proved.shown(&mut plan), line.shown(&mut expected));
+        same(seed, input, answers.0, answers.1);
+        same(seed, input, plan, expected);
+    }
+}
+
+/// A planner filled past its 64 places, block by block with a faulty one
+/// between, then emptied, with each number of blocks held on the way.
+#[test]
+fn a_planner_stays_in_its_memory() {
+    at_both_sides(|seed, rng, side| {
+        let limits = limits(rng);
+        let mut proved = Planner::fresh(&limits).expect("limits that pass");
+        let mut line = Line::fresh(&limits).expect("limits that pass");
+        let refused = proved.freshen(&faulty_limits(rng));
+        assert!(refused.is_err(), "{side:?}");
+        compare_held(seed, &proved, &line, side);
+        for block in path(rng, PLACES + 1) {
+            let faults = rng.pick(&BLOCK_FAULTS);
+            let faulty = faulty_block(rng, faults, false);
+            same(seed, String::new, proved.add(&faulty), line.add(&faulty));
+            same(seed, String::new, proved.add(&block), line.add(&block));
+            compare_held(seed, &proved, &line, side);
+        }
+        for _ in 0..=PLACES {
+            same(seed, String::new, proved.take(), line.take());
+            compare_held(seed, &proved, &line, side);
+        }
+    });
+    report(2 * 131 * 67, "plans shown in lists of 0 to 66 numbers");
+}
+
+/// Limits that pass, that are refused, and noise, as many bytes as are lent.
+fn some_bytes(rng: &mut Rng, pack: impl Fn(&mut Rng) -> Vec<u8>, length: usize) -> Vec<u8> {
+    let mut bytes = match rng.below(4) {
+        0 => Vec::new(),
+        _ => pack(rng),
+    };
+    bytes.extend((0..length).map(|_| rng.word() as u8));
+    bytes.truncate(length);
+    bytes
+}
+
+/// Limits that pass, and such that do not.
+fn some_limits(rng: &mut Rng) -> Limits {
+    match rng.below(3) {
+        0 => faulty_limits(rng),
+        _ => limits(rng),
+    }
+}
+
+/// A block that passes, and one that does not.
+fn some_block(rng: &mut Rng) -> Block {
+    let faults = rng.pick(&BLOCK_FAULTS);
+    match rng.below(3) {
+        0 => faulty_block(rng, faults, false),
+        _ => block(rng),
+    }
+}
+
+/// Limits and records read and written in 0 to 64 bytes.
+#[test]
+fn readers_and_writers_stay_in_their_bytes() {
+    at_both_sides(|seed, rng, side| {
+        for length in (0..=64).cycle().take(65 * 12) {
+            let input = |bytes: &[u8]| format!("{side:?} {}", hex(bytes));
+            let bytes = some_bytes(rng, |rng| pack_limits(&some_limits(rng), 0), length);
+            let (found, known) = (proved::read_limits(&bytes), tape::read_limits(&bytes));
+            same(seed, || input(&bytes), found, known);
+            let bytes = some_bytes(rng, |rng| pack_record(&some_block(rng)), length);
+            let (found, known) = (proved::read_record(&bytes), tape::read_record(&bytes));
+            same(seed, || input(&bytes), found, known);
+            let (limits, block) = (some_limits(rng), some_block(rng));
+            let (mut part, mut expected) = (bytes.clone(), bytes.clone());
+            let found = proved::write_limits(&limits, &mut part);
+            let known = tape::write_limits(&limits, &mut expected);
+            same(seed, || input(&bytes), (found, &part), (known, &expected));
+            let found = proved::write_record(&block, &mut part);
+            let known = tape::write_record(&block, &mut expected);
+            same(seed, || input(&bytes), (found, part), (known, expected));
+        }
+    });
+    report(2 * 4 * 65 * 12, "parts of a tape of 0 to 64 bytes");
+}
+
+/// Tapes of each length in bytes up to some records, and lists of 0 to 14
+/// numbers.
+#[test]
+fn a_tape_of_each_length_stays_in_its_bytes_and_list() {
+    at_both_sides(|seed, rng, side| {
+        let limits = limits(rng);
+        let blocks = path(rng, 12);
+        let whole = Tape { limits, blocks }.pack();
+        for (length, n) in (0..=whole.len()).flat_map(|length| (0..=14).map(move |n| (length, n))) {
+            let bytes = &whole[..length];
+            let (mut plan, mut expected) = (vec![77; n], vec![77; n]);
+            let found = proved::plan_tape(bytes, &mut plan);
+            let known = tape::plan_tape(bytes, &mut expected);
+            let input = || format!("{side:?} {} in {n}", hex(bytes));
+            same(seed, input, (found, plan), (known, expected));
+        }
+    });
+    report(
+        2 * 217 * 15,
+        "tapes of 0 to 216 bytes in lists of 0 to 14 numbers",
+    );
+}
+
+/// Whole tapes of 0 to 2,048 records, and what is one too long.
+#[test]
+fn a_tape_of_each_number_of_records_stays_in_its_bytes_and_list() {
+    at_both_sides(|seed, rng, side| {
+        let limits = limits(rng);
+        let blocks = path(rng, MOST_BLOCKS + 1);
+        let whole = Tape {
+            limits,
+            blocks: blocks.clone(),
+        }
+        .pack();
+        for records in 0..=MOST_BLOCKS {
+            let mut plan = vec![77; records + 1];
+            let bytes = &whole[..LIMITS_BYTES + 16 * records];
+            let found = proved::plan_tape(bytes, &mut plan);
+            let known = quick::plan_of(&limits, &blocks[..records]);
+            let input = || format!("{side:?} {}", hex(bytes));
+            same(seed, input, (found, Some(plan)), (Ok(()), known));
+        }
+        let many = proved::plan_tape(&whole, &mut [77; 3]);
+        let number = many.map_or_else(|fault| fault.refusal.number(), |()| 0);
+        assert_eq!(number, 10, "{side:?}");
+    });
+    report(2 * 2_050, "tapes of 0 to 2049 records");
+}
+
+/// Compares a trace in lists of these lengths.
+fn compare_trace(seed: u64, side: Side, trace: &[u8], [numbers, junctions]: [usize; 2]) {
+    let lists = || (vec![77; numbers], vec![88; junctions]);
+    let (mut found, mut known) = (lists(), lists());
+    let told = proved::replay(trace, &mut found.0, &mut found.1);
+    let expected = traces::replay(trace, &mut known.0, &mut known.1);
+    let input = || format!("{side:?} {} in {numbers} {junctions}", hex(trace));
+    same(seed, input, (told, found), (expected, known));
+}
+
+/// Traces of each length in bytes up to some calls, whole traces of 0 to 200
+/// calls, and lists of other lengths.
+#[test]
+fn a_trace_of_each_length_stays_in_its_bytes_and_lists() {
+    at_both_sides(|seed, rng, side| {
+        let limits = limits(rng);
+        let whole = pack_trace(&limits, &calls(rng, 200));
+        for length in 0..=LIMITS_BYTES + 8 * CALL_BYTES {
+            let bytes = &whole[..length];
+            compare_trace(seed, side, bytes, [rows(bytes), PLAN]);
+        }
+        for count in 0..=200 {
+            let bytes = &whole[..LIMITS_BYTES + CALL_BYTES * count];
+            compare_trace(seed, side, bytes, [rows(bytes), PLAN]);
+        }
+        let bytes = &whole[..LIMITS_BYTES + 3 * CALL_BYTES];
+        for numbers in 0..=4 * ROW {
+            compare_trace(seed, side, bytes, [numbers, PLAN]);
+        }
+        for junctions in 0..=PLAN + 2 {
+            compare_trace(seed, side, bytes, [rows(bytes), junctions]);
+        }
+    });
+    report(2 * (249 + 201 + 61 + 68), "traces in lists of many lengths");
+}

@@ -1,0 +1,107 @@
+//! Block speeds at the edges of the torque steps, and at the ends of their
+//! range: at each edge, one below it and one above.
+
+use std::collections::BTreeSet;
+
+use compare::proved::{self, Planner};
+use compare::ring::Ring;
+use compare::{report, same, seeds, Trying};
+use reference::generate::{block_of_speed, edge_speeds, path_at_edges, CAUSES, WAYS};
+use reference::line::{Line, LookAhead};
+use reference::machine::{Block, Limits, Numbers};
+use reference::rng::Rng;
+use reference::tape::{self, Tape};
+
+/// Adds the blocks to both planners, compares the plan and then each block as it
+/// is given out, its acceleration among the rest.
+fn compare_planners(seed: u64, limits: &Limits, blocks: &[Block]) {
+    let input = || format!("{limits:?} {blocks:?}");
+    let mut proved = Planner::fresh(limits).expect("limits that pass");
+    let mut line = Line::fresh(limits).expect("limits that pass");
+    for block in blocks {
+        same(seed, input, proved.add(block), line.add(block));
+    }
+    let mut plan = vec![77; blocks.len() + 1];
+    same(seed, input, proved.shown(&mut plan), Ok(()));
+    same(seed, input, plan, line.profile());
+    for _ in blocks {
+        same(seed, input, proved.take(), line.take());
+    }
+}
+
+/// Compares the plan of the blocks on a tape.
+fn compare_tapes(seed: u64, limits: &Limits, blocks: &[Block]) {
+    let input = || format!("{limits:?} {blocks:?}");
+    let (limits, blocks) = (*limits, blocks.to_vec());
+    let (mut plan, mut expected) = (vec![77; blocks.len() + 1], vec![77; blocks.len() + 1]);
+    let bytes = Tape { limits, blocks }.pack();
+    same(seed, input, proved::plan_tape(&bytes, &mut plan), Ok(()));
+    tape::plan_tape(&bytes, &mut expected).expect("an accepted tape");
+    same(seed, input, plan, expected);
+}
+
+/// Each edge speed, straight along an axis and oblique, by the feed and by the
+/// limit of an axis: one block, and the same block twice and three times, where
+/// the plan has the block's reach at a junction.
+#[test]
+fn every_edge_speed_gives_the_same_numbers() {
+    let mut count = 0;
+    for seed in seeds(20) {
+        let _trying = Trying::seed(seed);
+        let mut rng = Rng::new(seed);
+        for speed in edge_speeds() {
+            for (way, cause) in WAYS
+                .iter()
+                .flat_map(|way| CAUSES.map(|cause| (*way, cause)))
+            {
+                let (limits, block) = block_of_speed(&mut rng, speed, way, cause);
+                for times in 1..=3 {
+                    compare_planners(seed, &limits, &vec![block; times]);
+                    compare_tapes(seed, &limits, &vec![block; times]);
+                    count += 2;
+                }
+            }
+        }
+    }
+    report(count, "lines of an edge speed");
+}
+
+/// Paths whose blocks have edge speeds, in the planner and on tape.
+#[test]
+fn paths_at_edge_speeds_have_the_same_plan() {
+    let (edges, mut met) = (edge_speeds(), BTreeSet::new());
+    for seed in seeds(600) {
+        let _trying = Trying::seed(seed);
+        let mut rng = Rng::new(seed);
+        let count = rng.within(1, 40) as usize;
+        let (limits, blocks) = path_at_edges(&mut rng, count);
+        compare_planners(seed, &limits, &blocks);
+        compare_tapes(seed, &limits, &blocks);
+        met.extend(blocks.iter().map(|b| Numbers::of(&limits, b).speed));
+    }
+    let missed = edges.iter().filter(|edge| !met.contains(edge));
+    assert_eq!(missed.count(), 0, "of {edges:?}");
+    report(1_200, "paths at edge speeds");
+}
+
+/// The memory of a planner has the acceleration and the reach of a block at an
+/// edge speed as the promise's definitions say.
+#[test]
+fn the_memory_holds_the_numbers_of_edge_speeds() {
+    let mut count = 0;
+    for seed in seeds(40) {
+        let _trying = Trying::seed(seed);
+        let mut rng = Rng::new(seed);
+        for speed in edge_speeds() {
+            let (way, cause) = (rng.pick(&WAYS), rng.pick(&CAUSES));
+            let (limits, block) = block_of_speed(&mut rng, speed, way, cause);
+            let mut planner = Planner::fresh(&limits).expect("limits that pass");
+            let mut ring = Ring::of_memory(planner.memory().try_into().expect("780 numbers"));
+            let input = || format!("{limits:?} {block:?}");
+            same(seed, input, planner.add(&block), ring.add(&block));
+            same(seed, input, planner.memory(), &ring.memory()[..]);
+            count += 1;
+        }
+    }
+    report(count, "edge speeds in memory");
+}
