@@ -25,9 +25,9 @@ fn feed_of(first: u64, second: u64) -> u64
     ((first % 2) << 19) + (second >> 45)
 }
 
-// The block that the first 16 bytes say, unchecked; for who has seen that they are there. Moves X, Y and Z have 43, 22 and 1
+// The block that the first 16 bytes say, unchecked. Moves X, Y and Z have 43, 22 and 1
 // bits below them in the first word, and the radius has 21 below it in the second.
-pub fn decode_record(s: &[u8]) -> Block
+fn decode_record(s: &[u8]) -> Block
     requires { ⌜ recordBytes ≤ length (now s) ⌝ }
     ensures { λ r. ⌜ r ≡ blockAt (now (s .entry)) ⌝ }
 {
