@@ -12,13 +12,13 @@ use Rattle.tapelist.proofs.put_lines.Tie as tie
 
 abbrev Inv-loop : tie.InvT-loop
 Inv-loop s l plan first text₀ at to end₀ k₀ text end k =
-    (first ≤ k) × ((k ≤ first + partBlocks) × ((length text ≡ length text₀) × Storing l s plan first text₀ at text end k))
+    (first ≤ k) × (k ≤ first + partBlocks) × (length text ≡ length text₀) × Storing l s plan first text₀ at text end k
 
 abbrev μ-loop : tie.MeasureT-loop
 μ-loop s l plan first text₀ at to end₀ k₀ text end k = to - k
 
 loop-holds : tie.Need-loop-holds Inv-loop μ-loop
-loop-holds c = (search needs, (search needs, (refl, record { leads = refl; left = refl; room = omega arith })))
+loop-holds c = (search needs, search needs, refl, record { leads = refl; left = refl; room = omega arith })
 
 -- what is known in a turn
 module _ (turn : tie.In-loop Inv-loop μ-loop) where
@@ -32,7 +32,7 @@ module _ (turn : tie.In-loop Inv-loop μ-loop) where
   here = omega (arith, turn .loop-test .taken, loop .before .fewer .ensures)
 
   room : loop .loop .end + mostGiven ≤ length (loop .loop .text)
-  room = omega (arith, loop .loop .inv .0, here, loop .loop .inv .1 .1 .0, loop .loop .inv .1 .1 .1 .room, start .pre .3, start .pre .4)
+  room = omega (arith, loop .loop .inv .0, here, loop .loop .inv .2, loop .loop .inv .3 .room, start .pre .3, start .pre .4)
 
 put-record-requires : tie.Need-put-record-requires Inv-loop μ-loop
 put-record-requires c κs = let turn = c .before .before .before .before in (start turn .pre .0, room turn)
@@ -42,10 +42,18 @@ loop-again c =
     let stored = c .before .before in
     let turn = stored .before .before .before .before .before in
     let inv = loop turn .loop .inv in
-    (omega (arith, inv .0), (omega (arith, here turn), (search needs, storing-next (start turn .args .l) (start turn .args .s .now) (start turn .args .plan .now) (loop turn .loop .k) (inv .1 .1 .1) (inv .0) (here turn) (omega (arith, room turn)) (stored .put-record .ensures))))
+    let args = start turn .args in (
+      omega (arith, inv .0),
+      omega (arith, here turn),
+      search needs,
+      storing-next (args .l) (args .s .now) (args .plan .now) (loop turn .loop .k) (inv .3) (inv .0) (here turn) (omega (arith, room turn))
+          (stored .put-record .ensures),
+    )
 
 returns : tie.Need-returns Inv-loop μ-loop
-returns c = storing-all _ _ _ (c .before .loop .inv .1 .1 .1) (omega (arith, c .loop-test .left, c .before .before .fewer .ensures, c .before .before .before .records-in .ensures))
+returns c =
+    let fewer = c .before .before in
+    storing-all _ _ _ (c .before .loop .inv .3) (omega (arith, c .loop-test .left, fewer .fewer .ensures, fewer .before .records-in .ensures))
 
 pub put-lines-spec : {M : Type 1} → statement M
 put-lines-spec =
