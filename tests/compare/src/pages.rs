@@ -1,10 +1,10 @@
 //! Pages between two guard pages, which can be neither read nor written.
 //!
 //! A call that reads or writes in a guard page is stopped by the processor: the
-//! test process says on standard error how far before the begin or behind the
-//! end of the pages that was, and which seed was tried, and ends by SIGSEGV. The
-//! page before lent memory is the guard of a list that begins where its pages
-//! begin, the page behind it that of a list that ends where they end.
+//! test process says on standard error how far before the beginning or behind
+//! the end of the pages that was, and which seed was tried, and ends by SIGSEGV.
+//! The page before is the guard of a list that begins where its pages begin, the
+//! page behind that of a list that ends where they end.
 //!
 //! x86-64 Linux, as the library itself.
 
@@ -34,7 +34,7 @@ struct Action {
     restorer: usize,
 }
 
-/// The begin of `siginfo_t`, as a fault fills it.
+/// The first fields of `siginfo_t`, as a fault fills them.
 #[repr(C)]
 struct Fault {
     signal: i32,
@@ -117,7 +117,7 @@ impl Pages {
         let end = begin + self.bytes();
         if (begin - PAGE..begin).contains(&address) {
             let before = begin - address;
-            return Some(format!("byte {before} before the begin of lent memory"));
+            return Some(format!("byte {before} before the beginning of lent memory"));
         }
         let behind = address.checked_sub(end).filter(|far| *far < PAGE)?;
         Some(format!(
