@@ -120,10 +120,7 @@ impl Pages {
             return Some(format!("byte {before} before the beginning of lent memory"));
         }
         let behind = address.checked_sub(end).filter(|far| *far < PAGE)?;
-        Some(format!(
-            "{} bytes behind the end of lent memory",
-            behind + 1
-        ))
+        Some(format!("byte {} behind the end of lent memory", behind + 1))
     }
 }
 
