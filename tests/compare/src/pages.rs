@@ -28,7 +28,7 @@ const WITH_ADDRESS_ON_OTHER_STACK_ONCE: i32 = 0x8800_0004_u32 as i32;
 /// glibc's `struct sigaction`.
 #[repr(C)]
 struct Action {
-    handler: extern "C" fn(i32, *const Fault, *mut c_void),
+    handler: extern "C" fn(i32, *const SignalInfo, *mut c_void),
     mask: [u64; 16],
     flags: i32,
     restorer: usize,
@@ -36,7 +36,7 @@ struct Action {
 
 /// The first fields of `siginfo_t`, as a fault fills them.
 #[repr(C)]
-struct Fault {
+struct SignalInfo {
     signal: i32,
     error: i32,
     code: i32,
@@ -146,8 +146,8 @@ fn watch() {
 
 /// Says where the thread left what it was lent. It runs inside a call of the
 /// library, which holds no lock and has no memory of its own.
-extern "C" fn tell(_signal: i32, fault: *const Fault, _context: *mut c_void) {
-    let address = unsafe { (*fault).address };
+extern "C" fn tell(_signal: i32, info: *const SignalInfo, _context: *mut c_void) {
+    let address = unsafe { (*info).address };
     let left = |all: &Vec<Pages>| all.iter().find_map(|pages| pages.left_at(address));
     let place = ALL.with_borrow(left);
     let place = place.unwrap_or_else(|| format!("address {address:#x}, far from lent memory"));
