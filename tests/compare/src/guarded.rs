@@ -1,13 +1,12 @@
 //! Lists that are lent flush against a page that no call may touch.
 //!
 //! A lent list lies at the end of its pages, with a guard page right behind its
-//! last item, or at their begin, with a guard page right before its first
+//! last item, or at their beginning, with one right before its first item
 //! (`pages` says what happens there). What is left of the pages on the other
 //! side holds guard items: a write there is seen after the call.
 
 use std::cell::Cell;
 use std::fmt::Debug;
-use std::marker::PhantomData;
 use std::slice;
 
 use crate::pages::Pages;
@@ -40,7 +39,6 @@ pub struct Guarded<T> {
     first: usize,
     count: usize,
     guard: T,
-    held: PhantomData<T>,
 }
 
 impl<T: Copy + PartialEq + Debug> Guarded<T> {
@@ -58,7 +56,6 @@ impl<T: Copy + PartialEq + Debug> Guarded<T> {
             first,
             count,
             guard,
-            held: PhantomData,
         };
         let all = guarded.all_mut();
         all[..first].fill(guard);

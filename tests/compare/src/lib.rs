@@ -62,9 +62,9 @@ pub fn same<T: PartialEq + Debug>(seed: u64, input: impl Fn() -> String, proved:
 }
 
 /// A seed that is tried. It says which, where a test ends while it is alive: a
-/// guard is seen inside a call, which knows of no seed. Lists are lent at the
-/// begin of their pages at one seed and at the end at the next, and lists that a
-/// call writes hold something else before it at each.
+/// guard is seen inside a call, which knows of no seed. At one seed lists are
+/// lent at the beginning of their pages and at the next at the end, and at each
+/// seed the lists that a call writes hold something else before it.
 pub struct Trying(u64);
 
 impl Trying {

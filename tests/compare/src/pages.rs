@@ -1,10 +1,10 @@
 //! Pages between two guard pages, which can be neither read nor written.
 //!
 //! A call that reads or writes in a guard page is stopped by the processor: the
-//! test process says on standard error how far before the begin or behind the
-//! end of the pages that was, and which seed was tried, and ends by SIGSEGV. The
-//! page before lent memory is the guard of a list that begins where its pages
-//! begin, the page behind it that of a list that ends where they end.
+//! test process says on standard error how far before the beginning or behind
+//! the end of the pages that was, and which seed was tried, and ends by SIGSEGV.
+//! The page before is the guard of a list that begins where its pages begin, the
+//! page behind that of a list that ends where they end.
 //!
 //! x86-64 Linux, as the library itself.
 
@@ -28,15 +28,15 @@ const WITH_ADDRESS_ON_OTHER_STACK_ONCE: i32 = 0x8800_0004_u32 as i32;
 /// glibc's `struct sigaction`.
 #[repr(C)]
 struct Action {
-    handler: extern "C" fn(i32, *const Fault, *mut c_void),
+    handler: extern "C" fn(i32, *const SignalInfo, *mut c_void),
     mask: [u64; 16],
     flags: i32,
     restorer: usize,
 }
 
-/// The begin of `siginfo_t`, as a fault fills it.
+/// The first fields of `siginfo_t`, as a fault fills them.
 #[repr(C)]
-struct Fault {
+struct SignalInfo {
     signal: i32,
     error: i32,
     code: i32,
@@ -117,13 +117,10 @@ impl Pages {
         let end = begin + self.bytes();
         if (begin - PAGE..begin).contains(&address) {
             let before = begin - address;
-            return Some(format!("byte {before} before the begin of lent memory"));
+            return Some(format!("byte {before} before the beginning of lent memory"));
         }
         let behind = address.checked_sub(end).filter(|far| *far < PAGE)?;
-        Some(format!(
-            "{} bytes behind the end of lent memory",
-            behind + 1
-        ))
+        Some(format!("byte {} behind the end of lent memory", behind + 1))
     }
 }
 
@@ -149,8 +146,8 @@ fn watch() {
 
 /// Says where the thread left what it was lent. It runs inside a call of the
 /// library, which holds no lock and has no memory of its own.
-extern "C" fn tell(_signal: i32, fault: *const Fault, _context: *mut c_void) {
-    let address = unsafe { (*fault).address };
+extern "C" fn tell(_signal: i32, info: *const SignalInfo, _context: *mut c_void) {
+    let address = unsafe { (*info).address };
     let left = |all: &Vec<Pages>| all.iter().find_map(|pages| pages.left_at(address));
     let place = ALL.with_borrow(left);
     let place = place.unwrap_or_else(|| format!("address {address:#x}, far from lent memory"));

@@ -1,10 +1,13 @@
-//! Each number on the display from each function that can give it, and each
-//! field of limits and blocks at both ends of its range and one beyond.
+//! Each number on the display from each function that can give it, each field of
+//! limits and blocks at both ends of its range and one beyond, and the constants
+//! of the header.
 //!
 //! The numbers stand here as the README's table and the header have them: they
 //! are not the reference's.
 
-use compare::library::{PLAN, ROW};
+use std::collections::BTreeSet;
+
+use compare::library::{NUMBERS, PLAN, ROW};
 use compare::proved::{self, Planner};
 use compare::{first_seed, report, seeds, Trying};
 use reference::generate::{block, limits, machine_m, straight_steps};
@@ -12,8 +15,10 @@ use reference::line::LookAhead;
 use reference::machine::{Block, Limits};
 use reference::refusal::Refusal;
 use reference::rng::Rng;
-use reference::tape::{pack_limits, pack_record, LIMITS_BYTES, RECORD_BYTES};
-use reference::trace::{pack_trace, Call};
+use reference::tape::{
+    pack_limits, pack_record, LIMITS_BYTES, MOST_BLOCKS, MOST_BYTES, RECORD_BYTES,
+};
+use reference::trace::{pack_trace, Call, CALL_BYTES};
 
 /// A field of the limits and its ends.
 type LimitEnds = (fn(&mut Limits) -> &mut u64, u64, u64);
@@ -178,6 +183,65 @@ fn fields_come_back_as_they_were() {
         }
     }
     report(count, "fields at their ends, given out and read back");
+}
+
+/// The constants of the header, which is written by hand.
+const HEADER_NUMBERS: [(&str, u64); 25] = [
+    ("NUMBERS", NUMBERS as u64),
+    ("PLACES", 64),
+    ("LIMITS", 9),
+    ("MOVES", 3),
+    ("GIVEN", 11),
+    ("RECORD", 3),
+    ("LIMITS_BYTES", LIMITS_BYTES as u64),
+    ("RECORD_BYTES", RECORD_BYTES as u64),
+    ("MOST_BLOCKS", MOST_BLOCKS as u64),
+    ("MOST_TAPE", MOST_BYTES as u64),
+    ("CALL_BYTES", CALL_BYTES as u64),
+    ("ROW", ROW as u64),
+    ("PLAN", PLAN as u64),
+    ("ACCEPTED", 0),
+    ("REFUSED_LIMITS", 1),
+    ("REFUSED_STILL", 2),
+    ("REFUSED_LONG", 3),
+    ("REFUSED_FEED", 4),
+    ("REFUSED_RADIUS", 5),
+    ("REFUSED_MARK", 6),
+    ("REFUSED_FULL", 7),
+    ("REFUSED_EMPTY", 8),
+    ("REFUSED_RAGGED", 9),
+    ("REFUSED_MANY", 10),
+    ("REFUSED_LIST", 11),
+];
+
+/// The functions that a text declares, by their names.
+fn functions(text: &str) -> BTreeSet<&str> {
+    let calls = text
+        .split("uint64_t fullerecru_")
+        .chain(text.split("pub fn fullerecru_"));
+    let names = calls.filter_map(|rest| rest.split_once('(').map(|(name, _)| name));
+    names
+        .filter(|name| name.chars().all(|c| c.is_ascii_lowercase() || c == '_'))
+        .collect()
+}
+
+/// The header has the constants that the tests lend lists by, and declares the
+/// functions that they call.
+#[test]
+fn the_header_has_these_numbers_and_functions() {
+    let header = include_str!("../../../include/fullerecru.h");
+    let lines = header
+        .lines()
+        .filter_map(|line| line.trim().strip_prefix("FULLERECRU_"));
+    let pairs = lines.filter_map(|line| line.trim_end_matches(',').split_once(" = "));
+    let found: Vec<(&str, u64)> = pairs
+        .map(|(name, number)| (name, number.parse().expect("a number")))
+        .collect();
+    assert_eq!(found, HEADER_NUMBERS);
+    let called = functions(include_str!("../src/library.rs"));
+    assert_eq!(functions(header), called);
+    assert_eq!(called.len(), 11);
+    report(25 + 11, "constants and functions of the header");
 }
 
 /// The numbers of a call for each of three lengths of what it is lent.

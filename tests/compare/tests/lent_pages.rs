@@ -1,9 +1,11 @@
 //! Every function of include/fullerecru.h with every list that it is lent lying
-//! flush against a page that can be neither read nor written: at its end in one
-//! run, at its begin in the other. Lists have every length, 0 among them.
+//! flush against a page that can be neither read nor written: the page behind
+//! its end in one run, the page before its beginning in the other. Lists have
+//! every length, 0 among them.
 //!
-//! A read or a write beside a list ends the process by SIGSEGV, after the word
-//! GUARD and how far beside lent memory it was; cargo then names this file.
+//! A read or a write beside a list ends the process by SIGSEGV, after a line that
+//! begins with GUARD and says which byte beside lent memory it was; cargo then
+//! names this file.
 
 use compare::guarded::{lend_at, Side, SIDES};
 use compare::library::{PLAN, ROW};
