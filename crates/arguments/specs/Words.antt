@@ -32,6 +32,10 @@ matter = 58 ∷ 32 ∷ 117 ∷ 110 ∷ 101 ∷ 120 ∷ 112 ∷ 101 ∷ 99 ∷ 11
 unfoldable pub advice : List ℕ
 advice = 39 ∷ 59 ∷ 32 ∷ 105 ∷ 116 ∷ 32 ∷ 114 ∷ 101 ∷ 97 ∷ 100 ∷ 115 ∷ 32 ∷ 115 ∷ 116 ∷ 97 ∷ 110 ∷ 100 ∷ 97 ∷ 114 ∷ 100 ∷ 32 ∷ 105 ∷ 110 ∷ 112 ∷ 117 ∷ 116 ∷ 44 ∷ 32 ∷ 115 ∷ 101 ∷ 101 ∷ 32 ∷ 45 ∷ 45 ∷ 104 ∷ 101 ∷ 108 ∷ 112 ∷ 10 ∷ []
 
+-- how many bytes these two have
+abbrev pub aroundSize : ℕ
+aroundSize = 62
+
 -- the line that names a wrong argument
 unfoldable pub wrongLine : List ℕ → List ℕ → List ℕ
 wrongLine program argument = program ++ matter ++ argument ++ advice

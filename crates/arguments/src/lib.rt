@@ -6,7 +6,7 @@ ghost use mathlib.Core.List.{map};
 ghost use lib.ListN.{length};
 ghost use Rattle.io.specs.Counts.{Counts};
 ghost use Rattle.listing.specs.Store.{Stored};
-ghost use Rattle.arguments.specs.Words.{Helps, askedOf, shownAs, wrongLine};
+ghost use Rattle.arguments.specs.Words.{Helps, aroundSize, askedOf, shownAs, wrongLine};
 use libc::STDERR_FILENO;
 use libc::STDOUT_FILENO;
 use listing::behind;
@@ -16,8 +16,10 @@ use listing::put_bytes;
 const ARGUMENT: usize = 256;
 // Bytes of a program's name that are shown.
 const NAME: usize = 64;
-// Bytes of a line that names an argument: a program's name, the argument, and 62 of the words around them.
-const LINE: usize = NAME + ARGUMENT + 62;
+// Bytes of the words around them in a line that names an argument, and of the whole line.
+const AROUND: usize = 62;
+
+const LINE: usize = NAME + ARGUMENT + AROUND;
 
 // What a program is asked to do.
 enum Asked {
@@ -86,7 +88,7 @@ fn store(line: &mut [u8], at: usize, part: &[u8]) -> usize
 
 // Stores the line that names a wrong argument.
 fn store_wrong(line: &mut [u8], program: &[u8], argument: &[u8]) -> usize
-    requires { ⌜ length (now program) + length (now argument) + 62 ≤ length (now line) ⌝ }
+    requires { ⌜ length (now program) + length (now argument) + aroundSize ≤ length (now line) ⌝ }
     ensures { λ r. ⌜ Stored (now (line .entry)) 0 (wrongLine (now (program .entry)) (now (argument .entry))) r (now (line .exit)) ⌝ }
 {
     let named = store(line, 0, program);
