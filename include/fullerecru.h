@@ -8,8 +8,8 @@
  * Units: lengths in µm, speeds in µm/s, squared speeds in (µm/s)², accelerations in µm/s², the
  * tick in microseconds. Every quantity is a whole number.
  *
- * Answers: a function returns 0 where the call is accepted, else the number of its refusal (see
- * below). Where several refusals hold, the one given is the first in the order that stands at the
+ * Answers: every function but fullerecru_told returns 0 where the call is accepted, else the number
+ * of its refusal (see below). Where several refusals hold, the one given is the first in the order that stands at the
  * function. A refused call changes nothing that was lent, but for the place that tells where a
  * tape is at fault (fullerecru_plan_tape). Any numbers and any bytes are answered: the ranges
  * below are checked, not required.

@@ -11,7 +11,7 @@ use Rattle.machine.specs.Numbers.{CornerCap, none, upTo, lengthOf, accelOf, rea
 use Rattle.machine.specs.Line.{stepsOf}
 use Rattle.machine.specs.declared.Block.{Block}
 use Rattle.machine.specs.declared.Ramp.{Ramp}
-use Rattle.line.specs.Answers.{Answer, accepted, gave, refused}
+use Rattle.line.specs.Answers.{answerNumber}
 use Rattle.line.specs.Blocks.{Call, add, take, freshLine, lineAnswers}
 use Rattle.cases.specs.Shop.{machineM, curved, block}
 
@@ -55,15 +55,9 @@ rampNumbers r = r .peak ∷ r .up ∷ r .cruise ∷ r .down ∷ []
 abbrev firstRamp : Block → List Block → List ℕ
 firstRamp b rest = rampNumbers (rampOf (numbersOf machineM b) (numberAt (plan (b ∷ rest)) 0) (numberAt (plan (b ∷ rest)) 1))
 
--- the number on the display of an answer: 0 for a block added or given out
-abbrev display : Answer → ℕ
-display accepted = 0
-display (gave g) = 0
-display (refused n) = n
-
 -- the numbers that a list of calls shows, from a fresh planner on machine M
 abbrev displayed : List Call → List ℕ
-displayed calls = map display (lineAnswers (freshLine machineM) calls)
+displayed calls = map answerNumber (lineAnswers (freshLine machineM) calls)
 
 unfoldable pub table : List Case
 table =

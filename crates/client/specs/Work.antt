@@ -1,10 +1,11 @@
 -- The blocks of the worked results, and the lines that they make.
+use mathlib.Core.List.{List, [], _∷_}
 use mathlib.Core.Path.{_≡_}
 use Prim.Native.Nat.{ℕ}
 use lib.IntN.{ℤ, pos}
 use Rattle.machine.specs.declared.Block.{Block}
 use Rattle.line.specs.declared.Given.{Given}
-use Rattle.line.specs.Blocks.{Line, add, freshLine, lineAfter}
+use Rattle.line.specs.Blocks.{Line, Call, add, take, freshLine, lineAfter}
 use Rattle.cases.specs.Shop.{machineM}
 
 -- a block of feed 20,000 µm/s along X and Y
@@ -17,6 +18,10 @@ lineOfOne a = lineAfter (freshLine machineM) (add a)
 
 abbrev pub lineOfTwo : Block → Block → Line
 lineOfTwo a b = lineAfter (lineOfOne a) (add b)
+
+-- two adds and a take
+abbrev pub pairCalls : Block → Block → List Call
+pairCalls a b = add a ∷ add b ∷ take ∷ []
 
 -- a block given out with these numbers, on the right-angle pair
 pub record Gives (g : Given) (mark entry exit up down : ℕ) : Type 0 where

@@ -1,4 +1,5 @@
-// A client of the planner: worked results of document 01, each shown from the planner's promises alone.
+// A client of the planner: worked results of document 01, each shown from the planner's promises alone, and
+// demand 3 of calls that it makes.
 ghost use mathlib.Core.Bool.{true};
 ghost use mathlib.Core.Path.{_≡_};
 ghost use Rattle.client.specs.Work.{Gives, blockOf};
@@ -10,6 +11,8 @@ use line::TakeAnswer;
 use machine::Block;
 use planner::NUMBERS;
 use planner::Planner;
+
+mod demands;
 
 // A block of feed 20,000 µm/s along X and Y, µm.
 fn block(x: i64, y: i64, mark: u64) -> Block
@@ -121,6 +124,47 @@ fn short_list() {
     check::expect(list[0] == 7);
 }
 
+// The calls of `demands`, made once each; what they promise is their contracts.
+fn demanded(memory: &mut [u64; NUMBERS]) {
+    let mut list = [7u64; 2];
+    demands::in_memory(
+        memory,
+        machine_m(),
+        block(1_000, 0, 7),
+        block(0, 1_000, 8),
+        &mut list,
+    );
+    demands::by_value(
+        machine_m(),
+        block(1_000, 0, 7),
+        block(0, 1_000, 8),
+        &mut list,
+    );
+    let limits = [
+        200_000u64,
+        200_000,
+        200_000,
+        1_000_000,
+        1_000_000,
+        1_000_000,
+        2_000,
+        1,
+        2_000,
+    ];
+    let mut moves = [0i64; 3];
+    let mut numbers = [0u64; 11];
+    demands::for_c(
+        memory,
+        &limits,
+        1_000,
+        20_000,
+        &mut moves,
+        &mut numbers,
+        &mut list,
+    );
+    demands::of_tape(b"", &mut list);
+}
+
 fn main() {
     two_blocks();
     right_angle();
@@ -128,4 +172,5 @@ fn main() {
     short_list();
     let mut memory = [7u64; NUMBERS];
     was_refused(&mut memory, block(0, 0, 0));
+    demanded(&mut memory);
 }

@@ -3,8 +3,8 @@ use mathlib.Core.List.{List, [], _∷_}
 use mathlib.Core.Path.{_≡_, refl}
 use Prim.Native.Nat.{ℕ}
 use Rattle.machine.specs.declared.Limits.{Limits}
-use Rattle.line.specs.Answers.{Answer}
-use Rattle.line.specs.Blocks.{Call, addAnswer}
+use Rattle.line.specs.Answers.{Answer, answerBy}
+use Rattle.line.specs.Blocks.{Call}
 use Rattle.planner.specs.Calls as planner
 use Rattle.planner.specs.Calls.{CalledAll, Freshened, Told, Showed}
 use Rattle.planner.proofs.Demand.{demand3}
@@ -21,7 +21,7 @@ behind : {m m′ : List ℕ} {calls : List Call} {seen : List Seen} → Exported
 behind none = record { answers = []; called = planner.none; seen-are = seen.none }
 behind (add-next {n} one more) =
     let b = behind more in
-    record { answers = addAnswer n ∷ b .answers; called = planner.next one (b .called); seen-are = seen.next {s = seen.added n} refl (b .seen-are) }
+    record { answers = answerBy n ∷ b .answers; called = planner.next one (b .called); seen-are = seen.next {s = seen.added n} refl (b .seen-are) }
 behind (take-next {n} {moves} {moves′} {numbers} {numbers′} one more) =
     let b = behind more in
     record {
@@ -32,9 +32,9 @@ behind (take-next {n} {moves} {moves′} {numbers} {numbers′} one more) =
 
 -- DEMAND 3 for C. From `fullerecru_fresh` in any memory, for every list of `fullerecru_add` and `fullerecru_take`, refused ones included,
 -- then `fullerecru_told` and `fullerecru_shown`.
-pub exported-demand3 : {m₀ m m′ lent left : List ℕ} {l : Limits} {calls : List Call} {seen : List Seen} {told number : ℕ}
-    → Freshened m₀ l 0 m → ExportedAll m calls seen m′ → Told m′ told → Showed m′ lent (addAnswer number) left
+pub exported-demand3 : {m₀ m m′ lent left : List ℕ} {l : Limits} {calls : List Call} {seen : List Seen} {refusal told number : ℕ}
+    → Freshened m₀ l refusal m → refusal ≡ 0 → ExportedAll m calls seen m′ → Told m′ told → Showed m′ lent (answerBy number) left
     → ExportedDemand3 l calls seen told lent number left
-exported-demand3 fresh calls told showed =
+exported-demand3 fresh passed calls told showed =
     let b = behind calls in
-    record { answers = b .answers; seen-are = b .seen-are; demand = demand3 fresh (b .called) told showed }
+    record { answers = b .answers; seen-are = b .seen-are; demand = demand3 fresh passed (b .called) told showed }

@@ -7,32 +7,33 @@ use lib.IntN.{ℤ}
 use lib.ListN.{length}
 use Rattle.machine.specs.declared.Block.{Block}
 use Rattle.machine.specs.declared.Limits.{Limits}
-use Rattle.line.specs.Answers.{Answer, accepted, gave, refused}
-use Rattle.line.specs.Blocks.{Call, add, take, addRefusal, addAnswer}
+use Rattle.line.specs.Answers.{Answer, accepted, gave, refused, answerBy, answerNumber}
+use Rattle.line.specs.Blocks.{Call, add, take, addRefusal}
 use Rattle.line.specs.Ring.{ringAnswer, showRefusal}
 use Rattle.planner.specs.Calls.{Called, Freshened, Showed}
 use Rattle.planner.specs.View.{viewOf}
-use Rattle.fullerecru.specs.Planners.{answerNumber, movesAfter, numbersAfter, TakenOut}
+use Rattle.fullerecru.specs.Planners.{movesAfter, numbersAfter, TakenOut}
 
 -- A fresh planner by its number and its limits.
 pub fresh-by : {m m′ : List ℕ} {read l : Limits} {n k : ℕ} → Freshened m read k m′ → n ≡ k → read ≡ l → Freshened m l n m′
 fresh-by {m} {m′} {read} {n} f e same = subst (λ (x : Limits). Freshened m x n m′) same (subst (λ (j : ℕ). Freshened m read j m′) (sym e) f)
 
--- An answer that is a number's is that of its own number.
-by-number : {said : Answer} {n : ℕ} (k : ℕ) → said ≡ addAnswer k → n ≡ answerNumber said → said ≡ addAnswer n
-by-number k p q = p ∙ ap addAnswer (sym (q ∙ ap answerNumber p ∙ back k))
-  where
-    back : (k : ℕ) → answerNumber (addAnswer k) ≡ k
-    back zero = refl
-    back (suc k) = refl
+-- The number of a number's answer is that number,
+pub number-back : (k : ℕ) → answerNumber (answerBy k) ≡ k
+number-back zero = refl
+number-back (suc k) = refl
+
+-- and an answer that is a number's is that of its own number.
+by-number : {said : Answer} {n : ℕ} (k : ℕ) → said ≡ answerBy k → n ≡ answerNumber said → said ≡ answerBy n
+by-number k p q = p ∙ ap answerBy (sym (q ∙ ap answerNumber p ∙ number-back k))
 
 -- An add by its number,
-pub added-by : {m m′ : List ℕ} {b : Block} {said : Answer} {n : ℕ} → Called m (add b) said m′ → n ≡ answerNumber said → Called m (add b) (addAnswer n) m′
+pub added-by : {m m′ : List ℕ} {b : Block} {said : Answer} {n : ℕ} → Called m (add b) said m′ → n ≡ answerNumber said → Called m (add b) (answerBy n) m′
 unfolding ringAnswer
 added-by {m} {m′} {b} c e = subst (λ (a : Answer). Called m (add b) a m′) (by-number (addRefusal (viewOf m .count) b) (c .answer) e) c
 
 -- showing the plan by its number,
-pub shown-by : {m lent left : List ℕ} {said : Answer} {n : ℕ} → Showed m lent said left → n ≡ answerNumber said → Showed m lent (addAnswer n) left
+pub shown-by : {m lent left : List ℕ} {said : Answer} {n : ℕ} → Showed m lent said left → n ≡ answerNumber said → Showed m lent (answerBy n) left
 shown-by {m} {lent} {left} s e = subst (λ (a : Answer). Showed m lent a left) (by-number (showRefusal (viewOf m) (length lent)) (s .answer) e) s
 
 -- and a take by its number and the lists that are lent to it.

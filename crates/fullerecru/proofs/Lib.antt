@@ -1,4 +1,5 @@
 pub mod Demand
+pub mod Determined
 pub mod Displayed
 pub mod FromBytes
 pub mod WholeTapes

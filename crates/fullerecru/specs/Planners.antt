@@ -5,18 +5,12 @@ use Prim.Native.Nat.{ℕ, _<_}
 use lib.IntN.{ℤ}
 use Rattle.machine.specs.declared.Block.{Block}
 use Rattle.machine.specs.declared.Limits.{Limits}
-use Rattle.line.specs.Answers.{Answer, accepted, gave, refused}
-use Rattle.line.specs.Blocks.{Call, add, take, addAnswer}
+use Rattle.line.specs.Answers.{Answer, accepted, gave, refused, answerBy, answerNumber}
+use Rattle.line.specs.Blocks.{Call, add, take}
 use Rattle.line.specs.Demand.{Demand3}
 use Rattle.line.specs.declared.Given.{Given}
 use Rattle.planner.specs.Calls.{Called}
 use Rattle.fullerecru.specs.Moves.{blockMoves}
-
--- the number on the display; 0 says accepted
-abbrev pub answerNumber : Answer → ℕ
-answerNumber accepted = 0
-answerNumber (gave g) = 0
-answerNumber (refused n) = n
 
 -- the moves of a block given out, µm, and its other numbers
 abbrev pub movesFor : Given → List ℤ
@@ -53,8 +47,8 @@ pub record Gave (g : Given) (moves : List ℤ) (numbers : List ℕ) : Type 0 whe
   pub moves-are : moves ≡ movesFor g
   pub numbers-are : numbers ≡ givenNumbers g
 
--- A take, whose answer C sees as a number and in the lists that it lends. An add and showing the plan answer no more than a number, which
--- `addAnswer` reads: they promise what the planner's own calls do.
+-- A take, whose answer C sees as a number and in the lists that it lends. An add and showing the plan return no more than a number, which
+-- `answerBy` turns into the planner's answer: they promise what the planner's own calls do.
 pub record TakenOut (entry : List ℕ) (number : ℕ) (exit : List ℕ) (moves moves′ : List ℤ) (numbers numbers′ : List ℕ) : Type 0 where
   pub said : Answer
   pub called : Called entry take said exit
@@ -71,7 +65,7 @@ pub data Seen : Type 0 where
 
 -- an answer that is seen so
 abbrev pub SeenAs : Answer → Seen → Type 0
-SeenAs a (added n) = a ≡ addAnswer n
+SeenAs a (added n) = a ≡ answerBy n
 SeenAs a (taken n moves moves′ numbers numbers′) = (n ≡ answerNumber a) × (moves′ ≡ movesAfter a moves) × (numbers′ ≡ numbersAfter a numbers)
 
 pub data SeenAll : List Answer → List Seen → Type 0 where
@@ -81,7 +75,7 @@ pub data SeenAll : List Answer → List Seen → Type 0 where
 -- Calls of `fullerecru_add` and `fullerecru_take` one after the other, each on the memory that the one before it left.
 pub data ExportedAll : (memory : List ℕ) (calls : List Call) (seen : List Seen) (memory′ : List ℕ) → Type 0 where
   none : {m : List ℕ} → ExportedAll m [] [] m
-  add-next : {m m′ m″ : List ℕ} {b : Block} {n : ℕ} {calls : List Call} {seen : List Seen} → Called m (add b) (addAnswer n) m′ → ExportedAll m′ calls seen m″
+  add-next : {m m′ m″ : List ℕ} {b : Block} {n : ℕ} {calls : List Call} {seen : List Seen} → Called m (add b) (answerBy n) m′ → ExportedAll m′ calls seen m″
       → ExportedAll m (add b ∷ calls) (added n ∷ seen) m″
   take-next : {m m′ m″ : List ℕ} {n : ℕ} {moves moves′ : List ℤ} {numbers numbers′ : List ℕ} {calls : List Call} {seen : List Seen}
       → TakenOut m n m′ moves moves′ numbers numbers′ → ExportedAll m′ calls seen m″
@@ -92,4 +86,4 @@ pub data ExportedAll : (memory : List ℕ) (calls : List Call) (seen : List Seen
 pub record ExportedDemand3 (l : Limits) (calls : List Call) (seen : List Seen) (told : ℕ) (lent : List ℕ) (number : ℕ) (left : List ℕ) : Type 0 where
   pub answers : List Answer
   pub seen-are : SeenAll answers seen
-  pub demand : Demand3 l calls answers told lent (addAnswer number) left
+  pub demand : Demand3 l calls answers told lent (answerBy number) left

@@ -2,10 +2,10 @@
 // planner's.
 ghost use mathlib.Core.Path.{_≡_};
 ghost use lib.ListN.{length};
-ghost use Rattle.line.specs.Answers.{addMeans, showMeans};
+ghost use Rattle.line.specs.Answers.{addMeans, answerBy, answerNumber, showMeans};
 ghost use Rattle.line.specs.Blocks as blocks;
 ghost use Rattle.planner.specs.Calls.{Called, Freshened, Showed, Told};
-ghost use Rattle.fullerecru.specs.Planners.{Gave, TakenOut, answerNumber};
+ghost use Rattle.fullerecru.specs.Planners.{Gave, TakenOut};
 ghost use Rattle.machine.specs.Lists.{limitsFrom};
 use crate::numbers::checked_number;
 use crate::numbers::limits_of;
@@ -84,7 +84,7 @@ pub extern "C" fn fullerecru_add(
     radius: u64,
     mark: u64,
 ) -> u64
-    ensures { λ r. ⌜ Called (now (memory .entry)) (blocks.add (record { x = x; y = y; z = z; feed = feed; radius = radius; mark = mark })) (blocks.addAnswer r) (now (memory .exit)) ⌝ }
+    ensures { λ r. ⌜ Called (now (memory .entry)) (blocks.add (record { x = x; y = y; z = z; feed = feed; radius = radius; mark = mark })) (answerBy r) (now (memory .exit)) ⌝ }
 {
     let b = Block {
         x: x,
@@ -129,7 +129,7 @@ pub extern "C" fn fullerecru_told(memory: &[u64; NUMBERS]) -> u64
 // list is handed over as a pointer and its length. Refuses by 11.
 #[no_mangle]
 pub extern "C" fn fullerecru_shown(memory: &[u64; NUMBERS], list: &mut [u64]) -> u64
-    ensures { λ r. ⌜ Showed (now (memory .entry)) (now (list .entry)) (blocks.addAnswer r) (now (list .exit)) ⌝ }
+    ensures { λ r. ⌜ Showed (now (memory .entry)) (now (list .entry)) (answerBy r) (now (list .exit)) ⌝ }
 {
     shown_number(shown(memory, list))
 }

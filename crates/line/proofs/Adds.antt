@@ -21,7 +21,8 @@ use Rattle.machine.specs.Line.{stepsOf}
 use Rattle.machine.specs.Numbers.{numbersOf, blockCap}
 use Rattle.machine.specs.declared.Block.{Block}
 use Rattle.machine.specs.declared.Limits.{Limits}
-use Rattle.line.specs.Blocks.{mostHeld, Line, add, addRefusal, addAnswer, addAfter, lineAnswer, lineAfter}
+use Rattle.line.specs.Answers.{answerBy}
+use Rattle.line.specs.Blocks.{mostHeld, Line, add, addRefusal, addAfter, lineAnswer, lineAfter}
 use Rattle.line.specs.Ring.{Place, Ring, cutLimits, slot, placeAt, blockIn, numbersIn, placeOf, junctionAfter, newJunction, walkBack, putLast, addedIn, ringAnswer, ringAfter}
 use Rattle.line.specs.Holds.{noBlock, blockAt, keptAt, Placed, Holds}
 use Rattle.machine.proofs.Steps.{steps-length, steps-first, steps-cap}
@@ -222,7 +223,7 @@ pub holds-add : {r : Ring} {line : Line} (b : Block) → Holds r line
 unfolding ringAnswer lineAnswer ringAfter lineAfter
 holds-add {r} {line} b h =
     let same : addRefusal (r .count) b ≡ addRefusal (length (line .blocks)) b = ap (λ (n : ℕ). addRefusal n b) (h .counted) in
-    (ap addAnswer same, subst (λ (n : ℕ). Holds (addedIn n r b) (addAfter (addRefusal (length (line .blocks)) b) line b)) (sym same) (go _ refl))
+    (ap answerBy same, subst (λ (n : ℕ). Holds (addedIn n r b) (addAfter (addRefusal (length (line .blocks)) b) line b)) (sym same) (go _ refl))
   where
     go : (n : ℕ) → addRefusal (length (line .blocks)) b ≡ n → Holds (addedIn n r b) (addAfter n line b)
     go zero e = let a = not-refused (length (line .blocks)) b e in put-holds b h (a .0) (a .1)

@@ -6,3 +6,4 @@ pub mod Adds
 pub mod Takes
 pub mod Shows
 pub mod Calls
+pub mod Demand

@@ -13,15 +13,15 @@ use Rattle.profile.proofs.Plan.{plan-first, plan-exit, take-keeps}
 use Rattle.profile.proofs.Highest.{plan-lawful, plan-highest}
 use Rattle.profile.proofs.Kept.{braked-taken}
 use Rattle.machine.specs.Line.{stepsOf}
-use Rattle.machine.specs.Numbers.{numbersOf, reachFrom, rampOf, Rampable, rampable, noRamp}
+use Rattle.machine.specs.Numbers.{numbersOf, reachFrom, peakOf, rampOf, Rampable, rampable, noRamp}
 use Rattle.machine.specs.declared.Block.{Block}
 use Rattle.machine.specs.declared.Limits.{Limits}
 use Rattle.machine.specs.declared.Numbers.{Numbers}
 use Rattle.machine.proofs.Rampables.{rampable-holds}
 use Rattle.machine.proofs.RampLaws.{numbers-rampable, ramp-fills}
 use Rattle.line.specs.declared.Given.{Given}
-use Rattle.line.specs.Answers.{gave, givenOf}
-use Rattle.line.specs.Blocks.{Line, Call, add, take, addRefusal, addAnswer, takeAnswer, takeAfter, lineAnswer, lineAfter}
+use Rattle.line.specs.Answers.{gave, givenOf, answerBy}
+use Rattle.line.specs.Blocks.{Line, Call, add, take, addRefusal, takeAnswer, takeAfter, lineAnswer, lineAfter}
 use Rattle.line.specs.Ring.{Place, Ring, noPlace, placeAt, blockIn, numbersIn, givenIn, takenFrom, takenAnswer, takenIn, ringAnswer, ringAfter}
 use Rattle.line.specs.Holds.{keptAt, Placed, Holds, noBlock}
 use Rattle.line.specs.Demand.{GivenFrom}
@@ -86,13 +86,14 @@ module _ {r : Ring} {l : Limits} {committed : ℕ} {a : Block} {rest : List Bloc
       (λ i. rampedOf (h .placed .block 0 (omega arith) i) (h .placed .numbers 0 (omega arith) i) (h .committed i) (exit-right i))
       ∙ rw (plan-first committed steps (h .brakes), rampable-holds (numbersOf l a) committed exit ramped)
 
-  -- with a ramp that is as long as the block
+  -- with the speeds of the line's plan, within its cap, and a ramp that is as long as the block
   given-from : GivenFrom (lineOf l committed (a ∷ rest)) (givenOf l a (numberAt (planOf committed steps) 0) exit)
-  unfolding givenOf
+  unfolding givenOf numbersOf rampOf peakOf
   given-from = record {
     highest = plan-highest committed steps (h .brakes);
     entry = refl;
     exit = refl;
+    capped = (omega (arith, plan-first committed steps (h .brakes), ramped .entry-capped), ramped .exit-capped, omega arith);
     fills = rw (plan-first committed steps (h .brakes)) (ramp-fills (numbersOf l a) committed exit ramped (reach-own l a));
   }
 
@@ -159,7 +160,7 @@ pub holds-given : {r : Ring} {line : Line} → Holds r line → (c : Call) (g : 
 unfolding lineAnswer
 holds-given {r} {line} h (add b) g e = absurd (go (addRefusal (length (line .blocks)) b) e)
   where
-    go : (n : ℕ) → addAnswer n ≡ gave g → ⊥
+    go : (n : ℕ) → answerBy n ≡ gave g → ⊥
     go zero e = let z : _≡_ {A = ℕ} 0 1 = cc in omega arith
     go (suc n) e = let z : _≡_ {A = ℕ} 0 1 = cc in omega arith
 holds-given {r} {line} h take g e = go (line .limits) (line .committed) (line .blocks) h e

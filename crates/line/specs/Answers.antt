@@ -1,5 +1,5 @@
 -- What is answered, as document 01's numbers and values.
-use Prim.Native.Nat.{ℕ}
+use Prim.Native.Nat.{ℕ, zero, suc}
 use Rattle.machine.specs.Checks.{refusalNumber}
 use Rattle.machine.specs.Numbers.{numbersOf, rampOf}
 use Rattle.machine.specs.declared.Block.{Block}
@@ -17,6 +17,17 @@ pub data Answer : Type 0 where
   accepted : Answer
   gave : Given → Answer
   refused : ℕ → Answer
+
+-- what a call that gives out no block answers: accepted at 0, else refused by that number
+abbrev pub answerBy : ℕ → Answer
+answerBy zero = accepted
+answerBy (suc n) = refused (suc n)
+
+-- the number on the display; 0 says accepted, or a block given out
+abbrev pub answerNumber : Answer → ℕ
+answerNumber accepted = 0
+answerNumber (gave g) = 0
+answerNumber (refused n) = n
 
 abbrev pub addMeans : AddAnswer → Answer
 addMeans add.Added = accepted

@@ -10,7 +10,7 @@ use Rattle.machine.specs.Checks.{blockRefusal, pick}
 use Rattle.machine.specs.Line.{stepsOf}
 use Rattle.machine.specs.declared.Block.{Block}
 use Rattle.machine.specs.declared.Limits.{Limits}
-use Rattle.line.specs.Answers.{Answer, accepted, gave, refused, givenOf}
+use Rattle.line.specs.Answers.{Answer, gave, refused, answerBy, givenOf}
 
 -- how many blocks are held at most
 abbrev pub mostHeld : ℕ
@@ -35,15 +35,11 @@ pub data Call : Type 0 where
 abbrev pub addRefusal : (held : ℕ) → Block → ℕ
 addRefusal held b = firstOf (blockRefusal b) (pick (leb mostHeld held) 7 0)
 
--- the plan of the line: its highest lawful profile
+-- the plan of the line: its highest lawful profile, which `Demand: PlanHighest` says that it is; zeros where there is none
 abbrev pub linePlan : Line → List ℕ
 linePlan line = planOf (line .committed) (stepsOf (line .limits) (line .blocks))
 
--- what an add that is refused by a number, or by none, answers and leaves
-abbrev pub addAnswer : ℕ → Answer
-addAnswer zero = accepted
-addAnswer (suc n) = refused (suc n)
-
+-- what line an add that is refused by a number, or by none, leaves
 abbrev pub addAfter : ℕ → Line → Block → Line
 addAfter zero line b = record { limits = line .limits; committed = line .committed; blocks = line .blocks ++ b ∷ [] }
 addAfter (suc n) line b = line
@@ -60,7 +56,7 @@ takeAfter l committed (b ∷ rest) plan = record { limits = l; committed = numbe
 
 -- what each call answers
 unfoldable pub lineAnswer : Line → Call → Answer
-lineAnswer line (add b) = addAnswer (addRefusal (length (line .blocks)) b)
+lineAnswer line (add b) = answerBy (addRefusal (length (line .blocks)) b)
 lineAnswer line take = takeAnswer (line .limits) (line .blocks) (linePlan line)
 
 -- the line after a call

@@ -1,10 +1,11 @@
 -- Demand 3, drawn from the calls alone: nothing here names what a planner keeps.
 use mathlib.Core.List.{List}
 use mathlib.Core.Path.{_≡_}
-use Prim.Native.Nat.{ℕ, _+_}
+use Prim.Native.Nat.{ℕ, _+_, _≤_}
 use lib.ListN.{length, take, getD}
 use Rattle.profile.specs.Line.{numberAt, Highest}
 use Rattle.machine.specs.Line.{stepsOf}
+use Rattle.machine.specs.Numbers.{blockCap}
 use Rattle.machine.specs.declared.Limits.{Limits}
 use Rattle.line.specs.Answers.{Answer, accepted, gave, refused}
 use Rattle.line.specs.Blocks.{Line, Call, freshLine, linePlan, lineAnswers, lineAfterAll}
@@ -14,12 +15,13 @@ use Rattle.line.specs.declared.Given.{Given}
 abbrev pub PlanHighest : Line → Type 0
 PlanHighest line = Highest (line .committed) (stepsOf (line .limits) (line .blocks)) (linePlan line)
 
--- a block given out of a line: entry and exit are the first two numbers of its highest lawful profile, and the ramp is as long as
--- the block
+-- a block given out of a line: entry and exit are the first two numbers of its highest lawful profile; no squared speed of the block is
+-- above its cap; and the ramp is as long as the block
 pub record GivenFrom (line : Line) (g : Given) : Type 0 where
   pub highest : PlanHighest line
   pub entry : g .entry ≡ numberAt (linePlan line) 0
   pub exit : g .exit ≡ numberAt (linePlan line) 1
+  pub capped : (g .entry ≤ blockCap (line .limits) (g .block)) × (g .exit ≤ blockCap (line .limits) (g .block)) × (g .ramp .peak ≤ blockCap (line .limits) (g .block))
   pub fills : g .ramp .up + g .ramp .cruise + g .ramp .down ≡ g .length
 
 -- the plan of a line shown: a lent list that is one longer than its blocks is filled with its highest lawful profile; any other
@@ -29,7 +31,7 @@ pub record ShownOf (line : Line) (lent : List ℕ) (said : Answer) (left : List 
   pub fits : length lent ≡ length (line .blocks) + 1 → (said ≡ accepted) × (left ≡ linePlan line)
   pub other : (length lent ≡ length (line .blocks) + 1 → ⊥) → (said ≡ refused 11) × (left ≡ lent)
 
--- answer k of a list, k counted from 0
+-- answer k of a list, k counted from 0; accepted past its end, which is no block given out
 abbrev pub answerAt : List Answer → ℕ → Answer
 answerAt answers k = getD answers k accepted
 

@@ -20,7 +20,7 @@ noBlock = blockIn (Rattle.line.specs.Ring.noPlace)
 abbrev pub blockAt : List Block → ℕ → Block
 blockAt blocks k = getD blocks k noBlock
 
--- the limits by junctions: that of a place is at the junction where its block ends
+-- the squared speeds that the places keep, by junctions: that of a place is at the junction where its block ends
 abbrev pub keptAt : Ring → ℕ → ℕ
 keptAt r zero = 0
 keptAt r (suc k) = placeAt r k .limit
@@ -31,7 +31,7 @@ pub record Placed (r : Ring) (l : Limits) (blocks : List Block) : Type 0 where
   pub numbers : (k : ℕ) → k < length blocks → numbersIn (placeAt r k) ≡ numbersOf l (blockAt blocks k)
   pub junction : (k : ℕ) → 0 < k → k < length blocks → placeAt r k .junction ≡ capAt (stepsOf l blocks) k
 
--- the ring holds the line: its places are the line's blocks, its limits those of the line's backward pass; the line can
+-- the ring holds the line: its places are the line's blocks, the squared speeds that they keep those of the line's backward pass; the line can
 -- brake from the committed squared speed, which is within the first block's cap
 pub record Holds (r : Ring) (line : Line) : Type 0 where
   pub limited : limitsRefusal (line .limits) ≡ 0

@@ -14,8 +14,8 @@ use Rattle.machine.specs.declared.Limits.{Limits}
 use Rattle.machine.specs.declared.Block.{Block}
 use Rattle.machine.specs.declared.Numbers.{Numbers}
 use Rattle.line.specs.declared.Given.{Given}
-use Rattle.line.specs.Answers.{Answer, gave, refused}
-use Rattle.line.specs.Blocks.{mostHeld, Call, add, take, addRefusal, addAnswer}
+use Rattle.line.specs.Answers.{Answer, gave, refused, answerBy}
+use Rattle.line.specs.Blocks.{mostHeld, Call, add, take, addRefusal}
 
 -- one place: a block, its numbers, the cap of the junction where it begins, and the greatest squared speed at its end
 -- from which the blocks after it can still brake. A move is kept as its 21 bits.
@@ -179,7 +179,7 @@ takenIn (suc n) r = takenFrom r
 
 -- what each call answers and leaves
 unfoldable pub ringAnswer : Ring → Call → Answer
-ringAnswer r (add b) = addAnswer (addRefusal (r .count) b)
+ringAnswer r (add b) = answerBy (addRefusal (r .count) b)
 ringAnswer r take = takenAnswer (r .count) r
 
 unfoldable pub ringAfter : Ring → Call → Ring

@@ -44,11 +44,11 @@ called-given (next one more) line h (suc k) g e = called-given more _ (one .line
 -- refused ones included, then told and shown: every call is answered as the line of blocks says, every block given out has
 -- the speeds of the highest lawful profile as it stood then, the number told is the line's, and the plan shown is its highest
 -- lawful profile.
-pub demand3 : {m₀ m m′ lent left : List ℕ} {l : Limits} {calls : List Call} {answers : List Answer} {told : ℕ} {said : Answer}
-    → Freshened m₀ l 0 m → CalledAll m calls answers m′ → Told m′ told → Showed m′ lent said left
+pub demand3 : {m₀ m m′ lent left : List ℕ} {l : Limits} {refusal told : ℕ} {calls : List Call} {answers : List Answer} {said : Answer}
+    → Freshened m₀ l refusal m → refusal ≡ 0 → CalledAll m calls answers m′ → Told m′ told → Showed m′ lent said left
     → Demand3 l calls answers told lent said left
-demand3 {l} {calls} fresh called told showed =
-    let begin = fresh .line refl in
+demand3 {l} {calls} fresh passed called told showed =
+    let begin = fresh .line passed in
     let end = lineAfterAll (freshLine l) calls in
     let run = called-line called (freshLine l) begin in
     record {

@@ -1,4 +1,5 @@
 pub mod Demand
+pub mod Determined
 pub mod Outcomes
 pub mod Steps
 pub mod View

@@ -13,8 +13,8 @@ use Rattle.machine.specs.declared.Block.{Block}
 use Rattle.machine.specs.declared.Limits.{Limits}
 use Rattle.machine.specs.declared.Refusal.the-variants as why
 use Rattle.line.specs.declared.Given.{Given}
-use Rattle.line.specs.Answers.{Answer, accepted, gave, refused}
-use Rattle.line.specs.Blocks.{mostHeld, Call, add, take, addRefusal, addAnswer}
+use Rattle.line.specs.Answers.{Answer, accepted, gave, refused, answerBy}
+use Rattle.line.specs.Blocks.{mostHeld, Call, add, take, addRefusal}
 use Rattle.line.specs.Ring.{putLast, addedIn, givenIn, takenFrom, takenAnswer, takenIn, ringAnswer, ringAfter, toldOf, shownIn, showRefusal}
 use Rattle.line.proofs.Calls.{holds-fresh, holds-call}
 use Rattle.line.proofs.Shows.{holds-told, holds-shown, holds-highest}
@@ -72,9 +72,9 @@ module _ (m : List ℕ) (sized : length m ≡ memorySize) (l : Limits) where
 refused-by : (m : List ℕ) (b : Block) (n : ℕ) → length m ≡ memorySize → 0 < n → n ≡ addRefusal (viewOf m .count) b → Called m (add b) (refused n) m
 unfolding ringAnswer ringAfter
 refused-by m b n sized h e =
-    called m m (add b) (refused n) sized (answered n h ∙ ap addAnswer e) (unchanged n h ∙ ap (λ (k : ℕ). addedIn k (viewOf m) b) e) (λ k q. refl)
+    called m m (add b) (refused n) sized (answered n h ∙ ap answerBy e) (unchanged n h ∙ ap (λ (k : ℕ). addedIn k (viewOf m) b) e) (λ k q. refl)
   where
-    answered : (n : ℕ) → 0 < n → refused n ≡ addAnswer n
+    answered : (n : ℕ) → 0 < n → refused n ≡ answerBy n
     answered zero h = absurd (omega arith)
     answered (suc n) h = refl
 
@@ -100,7 +100,7 @@ module _ (m : List ℕ) (b : Block) (sized : length m ≡ memorySize) where
   unfolding ringAnswer ringAfter
   add-put m′ e room held =
       let none = sym (ap (λ (k : ℕ). firstOf k (pick (leb mostHeld (viewOf m .count)) 7 0)) (sym e) ∙ ap (λ (t : Bool). pick t 7 0) (lt-leb mostHeld (viewOf m .count) room)) in
-      called m m′ (add b) accepted (held .sized) (ap addAnswer none) (held .view ∙ ap (λ (k : ℕ). addedIn k (viewOf m) b) none)
+      called m m′ (add b) accepted (held .sized) (ap answerBy none) (held .view ∙ ap (λ (k : ℕ). addedIn k (viewOf m) b) none)
       (λ k q. absurd (accepted-not k q))
 
 module _ (m : List ℕ) where
@@ -136,7 +136,7 @@ module _ (m held : List ℕ) where
   pub shown-all : (exit : List ℕ) → length held ≡ toldOf (viewOf m) + 1 → exit ≡ shownIn (viewOf m) → Showed m held accepted exit
   shown-all exit e s =
       record {
-        answer = ap addAnswer (sym (right-length e));
+        answer = ap answerBy (sym (right-length e));
         list = s ∙ ap (λ (k : ℕ). shownList k (viewOf m) held) (sym (right-length e));
         unchanged = λ k q. absurd (accepted-not k q);
         line = λ line h.
@@ -150,7 +150,7 @@ module _ (m held : List ℕ) where
   pub shown-none : (length held ≡ toldOf (viewOf m) + 1 → ⊥) → Showed m held (refused 11) held
   shown-none e =
       record {
-        answer = ap addAnswer (sym (wrong-length e));
+        answer = ap answerBy (sym (wrong-length e));
         list = ap (λ (k : ℕ). shownList k (viewOf m) held) (sym (wrong-length e));
         unchanged = λ k q. refl;
         line = λ line h.

@@ -6,8 +6,8 @@ use lib.ListN.{length}
 use Rattle.profile.specs.Passes.{brakeFrom, exitFrom}
 use Rattle.machine.specs.Checks.{limitsRefusal}
 use Rattle.machine.specs.declared.Limits.{Limits}
-use Rattle.line.specs.Answers.{Answer, refused}
-use Rattle.line.specs.Blocks.{Call, Line, addAnswer, freshLine, lineAnswer, lineAfter}
+use Rattle.line.specs.Answers.{Answer, refused, answerBy}
+use Rattle.line.specs.Blocks.{Call, Line, freshLine, lineAnswer, lineAfter}
 use Rattle.line.specs.Demand.{ShownOf}
 use Rattle.line.specs.Holds.{Holds}
 use Rattle.line.specs.declared.Given.{Given}
@@ -68,7 +68,7 @@ shownList zero r list = shownIn r
 shownList (suc n) r list = list
 
 pub record Showed (memory held : List ℕ) (said : Answer) (exit : List ℕ) : Type 0 where
-  pub answer : said ≡ addAnswer (showRefusal (viewOf memory) (length held))
+  pub answer : said ≡ answerBy (showRefusal (viewOf memory) (length held))
   pub list : exit ≡ shownList (showRefusal (viewOf memory) (length held)) (viewOf memory) held
   pub unchanged : (n : ℕ) → said ≡ refused n → exit ≡ held
   pub line : (line : Line) → MemoryHolds memory line → ShownOf line held said exit

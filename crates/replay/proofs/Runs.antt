@@ -87,10 +87,10 @@ ran-all trace rows {m} {m′} k e s r =
 pub demanded : {l : Limits} {m₀ m m′ answers′ : List ℕ} {calls : List Call} {told n : ℕ} {said : Answer} (plan shown : List ℕ)
     → limitsRefusal l ≡ 0 → Freshened m₀ l n m → Ran calls m m′ answers′ → Told m′ told → Showed m′ (take (told + 1) plan) said shown → length plan ≡ planSize
     → length shown ≡ length (take (told + 1) plan) → Demanded l calls told answers′ plan (shown ++ drop (told + 1) plan)
-demanded {l} {m₀} {m} {calls} {told} plan shown passed fresh ran t s p e =
+demanded {l} {calls} {told} plan shown passed fresh ran t s p e =
     let long : length (take (told + 1) plan) ≡ told + 1 = length-take-le (told + 1) plan (omega (arith, told-few t)) in
     let front : take (told + 1) (shown ++ drop (told + 1) plan) ≡ shown = take-at shown (drop (told + 1) plan) (told + 1) (e ∙ long) in
-    let demand = demand3 (subst (λ (k : ℕ). Freshened m₀ l k m) (fresh .answer ∙ passed) fresh) (ran .called) t s in
+    let demand = demand3 fresh (fresh .answer ∙ passed) (ran .called) t s in
     let accepts = demand .plan .fits (long ∙ ap (λ (n : ℕ). n + 1) (demand .number)) .0 in
     record {
       answers = ran .answers;

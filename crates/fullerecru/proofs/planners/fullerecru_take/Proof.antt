@@ -1,9 +1,9 @@
 -- `fullerecru::planners::fullerecru_take`: the promise of `take`, by its number, with the lent lists. Assumes nothing.
 use mathlib.Core.Path.{sym, ap, _∙_}
 use borrow.Author.Needs.{needs}
-use Rattle.line.specs.Answers.{takeMeans}
+use Rattle.line.specs.Answers.{answerNumber, takeMeans}
 use Rattle.line.specs.declared.TakeAnswer.{TakeAnswer}
-use Rattle.fullerecru.specs.Planners.{answerNumber, movesAfter, numbersAfter}
+use Rattle.fullerecru.specs.Planners.{movesAfter, numbersAfter}
 use Rattle.fullerecru.proofs.Displayed.{taken-out}
 use Rattle.fullerecru.proofs.planners.fullerecru_take.Statement.{statement}
 use Rattle.fullerecru.proofs.planners.fullerecru_take.Tie as tie

@@ -1,0 +1,27 @@
+-- Demand 3 has one outcome: two that meet it for the same calls and the same length of a lent list are equal. Assumes nothing.
+use mathlib.Core.Bool.{Bool, true, false}
+use mathlib.Core.List.{List}
+use mathlib.Core.Path.{_≡_, refl, sym, _∙_}
+use Prim.Native.Nat.{ℕ, _+_}
+use borrow.Author.Tests.{eqb-true, eqb-false}
+use lib.Dec.{eqb}
+use lib.ListN.{length}
+use Rattle.machine.specs.declared.Limits.{Limits}
+use Rattle.line.specs.Answers.{Answer}
+use Rattle.line.specs.Blocks.{Line, Call}
+use Rattle.line.specs.Demand.{ShownOf, Demand3}
+
+shown-one : {line : Line} {lent left left′ : List ℕ} {s s′ : Answer} → ShownOf line lent s left → ShownOf line lent s′ left′ → (s ≡ s′) × (left ≡ left′)
+shown-one {line} {lent} {left} {left′} {s} {s′} p q = by (eqb (length lent) (length (line .blocks) + 1)) refl
+  where
+    by : (t : Bool) → eqb (length lent) (length (line .blocks) + 1) ≡ t → (s ≡ s′) × (left ≡ left′)
+    by true e = let f = eqb-true _ _ e in (p .fits f .0 ∙ sym (q .fits f .0), p .fits f .1 ∙ sym (q .fits f .1))
+    by false e = let f = eqb-false _ _ e in (p .other f .0 ∙ sym (q .other f .0), p .other f .1 ∙ sym (q .other f .1))
+
+-- so no planner that answers, tells or shows anything else meets it
+pub demand-one : {l : Limits} {calls : List Call} {answers answers′ : List Answer} {told told′ : ℕ} {lent left left′ : List ℕ} {said said′ : Answer}
+    → Demand3 l calls answers told lent said left → Demand3 l calls answers′ told′ lent said′ left′
+    → (answers ≡ answers′) × (told ≡ told′) × (said ≡ said′) × (left ≡ left′)
+demand-one p q =
+    let shown = shown-one (p .plan) (q .plan) in
+    (p .answered ∙ sym (q .answered), p .number ∙ sym (q .number), shown .0, shown .1)
