@@ -9,10 +9,10 @@
  * tick in microseconds. Every quantity is a whole number.
  *
  * Answers: every function but fullerecru_told returns 0 where the call is accepted, else the number
- * of its refusal (see below). Where several refusals hold, the one given is the first in the order that stands at the
- * function. A refused call changes nothing that was lent, but for the place that tells where a
- * tape is at fault (fullerecru_plan_tape). Any numbers and any bytes are answered: the ranges
- * below are checked, not required.
+ * of its refusal (see below). Where several refusals hold, the one given is the first in the order
+ * that stands at the function. A refused call changes nothing that was lent, but for the place that
+ * tells where a tape is at fault (fullerecru_plan_tape). Any numbers and any bytes are answered: the
+ * ranges below are checked, not required.
  *
  * What the model leaves open: the acceleration limits hold along each block; at a junction the
  * velocity may step by as much as the corner jump J, and short chords make many such steps. On a
