@@ -36,6 +36,10 @@ advice = 39 ∷ 59 ∷ 32 ∷ 105 ∷ 116 ∷ 32 ∷ 114 ∷ 101 ∷ 97 ∷ 100 
 abbrev pub aroundSize : ℕ
 aroundSize = 62
 
+-- how many bytes of a program's name are shown at most
+abbrev pub nameSize : ℕ
+nameSize = 64
+
 -- the line that names a wrong argument
 unfoldable pub wrongLine : List ℕ → List ℕ → List ℕ
 wrongLine program argument = program ++ matter ++ argument ++ advice

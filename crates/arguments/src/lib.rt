@@ -1,12 +1,12 @@
 // The arguments that a program is started with. The programs know one, `--help`, which writes the usage; any other is told
 // on standard error, and the program does nothing.
 ghost use mathlib.Core.Path.{_≡_};
-ghost use Prim.Native.Nat.{_+_, _≤_};
+ghost use Prim.Native.Nat.{_+_, _≤_, min};
 ghost use mathlib.Core.List.{map};
 ghost use lib.ListN.{length};
 ghost use Rattle.io.specs.Counts.{Counts};
 ghost use Rattle.listing.specs.Store.{Stored};
-ghost use Rattle.arguments.specs.Words.{Helps, aroundSize, askedOf, shownAs, wrongLine};
+ghost use Rattle.arguments.specs.Words.{Helps, aroundSize, askedOf, nameSize, shownAs, wrongLine};
 use libc::STDERR_FILENO;
 use libc::STDOUT_FILENO;
 use listing::behind;
@@ -110,7 +110,7 @@ fn read_shown(place: usize, argument: &mut [u8]) -> usize
 
 // How many bytes of a program's name are shown, where it has so many.
 fn name_shown(length: usize) -> usize
-    ensures { λ r. ⌜ (r ≤ length) × (r ≤ 64) ⌝ }
+    ensures { λ r. ⌜ r ≡ min length nameSize ⌝ }
 {
     if length < NAME { length } else { NAME }
 }

@@ -1,8 +1,9 @@
 //! A planner's memory by the promise of its calls: what each answers and leaves
 //! in the 780 numbers, whatever these are.
 //!
-//! Written from the definitions that the promise cites, and from nothing of the
-//! code in crates/*/src: crates/line/specs/Ring.antt (what a call answers and
+//! It follows the definitions that the promise cites, and not the code in
+//! crates/*/src, though it is no independent implementation (docs/DECISIONS.md):
+//! crates/line/specs/Ring.antt (what a call answers and
 //! leaves), crates/planner/specs/View.antt (where each number stands) and
 //! Calls.antt (a fresh planner), crates/profile/specs/Passes.antt (one step of
 //! each pass), crates/fields/specs/Signed.antt (moves as 21 bits), and for

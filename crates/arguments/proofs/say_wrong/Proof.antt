@@ -11,7 +11,7 @@ use Rattle.arguments.proofs.say_wrong.Tie as tie
 
 -- as much of the name as is shown is in it
 named : (c : tie.After-name-shown) → c .name-shown .result ≡ length (take (c .name-shown .result) (c .before .before .before .before .before .args .program .now))
-named c = sym (length-take-le _ (c .before .before .before .before .before .args .program .now) (c .name-shown .ensures .0))
+named c = sym (length-take-le _ (c .before .before .before .before .before .args .program .now) (omega arith))
 
 store-wrong-requires : tie.Need-store-wrong-requires
 store-wrong-requires c κs = omega (arith, named (c .before .before .before))
