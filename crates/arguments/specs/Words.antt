@@ -1,8 +1,8 @@
--- What a program's arguments ask for, and how a wrong one is told, as ASCII bytes. Assumes nothing.
+-- What a program's arguments ask for, and how a wrong one is told, as ASCII bytes.
 use mathlib.Core.Path.{_≡_}
 use Prim.Native.Nat.{ℕ}
 use mathlib.Core.Bool.{Bool, true, cond}
-use mathlib.Core.List.{List, [], _∷_, _++_}
+use mathlib.Core.List.{List, _∷_, _++_}
 use lib.Dec.{ltb, eqb}
 use Rattle.arguments.specs.declared.Asked.{Asked}
 use Rattle.arguments.specs.declared.Asked.the-variants.{Work, Usage, Wrong}

@@ -5,12 +5,12 @@ ghost use Prim.Native.Nat.{_+_, _≤_, min};
 ghost use mathlib.Core.List.{map};
 ghost use lib.ListN.{length};
 ghost use Rattle.io.specs.Counts.{Counts};
-ghost use Rattle.listing.specs.Store.{Stored};
+ghost use Rattle.text.specs.Store.{Stored};
 ghost use Rattle.arguments.specs.Words.{Helps, aroundSize, askedOf, nameSize, shownAs, wrongLine};
 use libc::STDERR_FILENO;
 use libc::STDOUT_FILENO;
-use listing::behind;
-use listing::put_bytes;
+use text::behind;
+use text::put_bytes;
 
 // Bytes of an argument that are looked at.
 const ARGUMENT: usize = 256;

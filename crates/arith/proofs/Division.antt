@@ -1,4 +1,4 @@
--- Laws of products and long division in base 2^32, over plain numbers. From the laws of products, quotients and remainders. Assumes nothing.
+-- Laws of products and long division in base 2^32, over plain numbers. From the laws of products, quotients and remainders.
 use mathlib.Core.Path.{_≡_, sym, ap, _∙_}
 use Prim.Native.Nat.{ℕ, zero, suc, _+_, _*_, _-_, _/_, _%_, _^_, _≤_, _<_, min}
 use native.Mathlib.Nat.{add-mul, mul-add, mul-assoc, mul-right-comm, mul-mul-mul-comm, mul-le-mul, mul-le-mul-right, mul-lt-mul-of-pos-right, zero-mul, min-eq-left, min-eq-right, lt-of-not-le, suc-mul, div-add-mod', mod-lt, lt-div-mul-add, div-lt-iff-lt-mul, mul-add-div-right, div-div-eq-div-mul, mul-div-mul-right, div-mul-le-self}

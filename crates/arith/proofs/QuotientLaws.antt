@@ -1,4 +1,4 @@
--- `cappedQuotient cap n d` is the largest number not above the cap whose product with d is not above n. From the laws of division. Assumes nothing.
+-- `cappedQuotient cap n d` is the largest number not above the cap whose product with d is not above n. From the laws of division.
 use mathlib.Core.Path.{_≡_}
 use Prim.Native.Nat.{ℕ, zero, suc, _*_, _/_, _≤_, _<_, min}
 use native.Mathlib.Nat.{le-refl, le-antisymm, le-min, min-le-left, min-le-right, le-div-iff-mul-le, mul-zero}

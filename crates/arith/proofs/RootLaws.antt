@@ -1,12 +1,12 @@
--- `rootOf n` is the largest whole number whose square is not above n, and Newton's step from any number above 0 is at least that root. From `Squares`. Assumes nothing.
+-- `rootOf n` is the largest whole number whose square is not above n, and Newton's step from any number above 0 is at least that root. From `Squares`.
 use mathlib.Core.Path.{_≡_, refl}
-use mathlib.Core.Bool.{Bool, true, false}
+use mathlib.Core.Bool.{Bool, true, false, cond}
 use Prim.Native.Nat.{ℕ, zero, suc, _+_, _*_, _/_, _≤_, _<_}
 use native.Mathlib.Nat.{le-refl, lt-of-le-of-lt, mul-le-mul, lt-mul-div-succ, le-div-iff-mul-le}
 use native.Mathlib.Omega.{arith}
 use borrow.Author.Tests.{leb-true, leb-false}
 use lib.Dec.{leb}
-use Rattle.arith.specs.Root.{IsRoot, rootOf, rootByDigits, nextRoot, pick}
+use Rattle.arith.specs.Root.{IsRoot, rootOf, rootByDigits, nextRoot}
 use Rattle.arith.proofs.Squares.{square-next, square-double, square-less, four-product}
 
 -- one digit more: from the root of n / 4 to the root of n
@@ -14,7 +14,7 @@ next-root : (n s : ℕ) → IsRoot (n / 4) s → IsRoot n (nextRoot n s)
 unfolding nextRoot
 next-root n s h = go (leb ((2 * s + 1) * (2 * s + 1)) n) refl
   where
-    go : (b : Bool) → leb ((2 * s + 1) * (2 * s + 1)) n ≡ b → IsRoot n (pick b (2 * s + 1) (2 * s))
+    go : (b : Bool) → leb ((2 * s + 1) * (2 * s + 1)) n ≡ b → IsRoot n (cond b (2 * s + 1) (2 * s))
     go true e = record {
       not-above = leb-true _ _ e;
       next-above = omega (arith, h .next-above, square-next s, square-next (2 * s), square-next (2 * s + 1), square-double s);

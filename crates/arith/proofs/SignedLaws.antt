@@ -1,4 +1,4 @@
--- Laws of signed numbers at 64 bits: what fits, what the machine reads back, and the gap. From the laws of ℤ. Assumes nothing.
+-- Laws of signed numbers at 64 bits: what fits, what the machine reads back, and the gap. From the laws of ℤ.
 use mathlib.Core.Path.{_≡_, refl, ap, subst, _∙_}
 use mathlib.Core.Bool.{Bool, true, false, cond}
 use Prim.Native.Nat.{ℕ, zero, suc, _+_, _-_, _*_, _^_, _≤_, _<_}

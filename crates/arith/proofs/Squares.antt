@@ -1,4 +1,4 @@
--- Laws of squares, from the distributive laws. Assumes nothing.
+-- Laws of squares, from the distributive laws.
 use mathlib.Core.Path.{_≡_}
 use Prim.Native.Nat.{ℕ, _+_, _*_, _-_, _≤_, _<_}
 use native.Mathlib.Nat.{add-mul, mul-add, mul-comm, mul-assoc, mul-le-mul, lt-of-not-le, not-le-of-lt}

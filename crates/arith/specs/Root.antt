@@ -1,15 +1,11 @@
 -- The root of a whole number, rounded down.
 use Prim.Native.Nat.{ℕ, zero, suc, _+_, _*_, _/_, _≤_, _<_}
 use lib.Dec.{leb}
-use mathlib.Core.Bool.{Bool, true, false}
-
-abbrev pub pick : Bool → ℕ → ℕ → ℕ
-pick true a b = a
-pick false a b = b
+use mathlib.Core.Bool.{cond}
 
 -- the root of n, from the root r of n / 4: one more than its double where the square of that is not above n, else its double
 unfoldable pub nextRoot : (n r : ℕ) → ℕ
-nextRoot n r = pick (leb ((2 * r + 1) * (2 * r + 1)) n) (2 * r + 1) (2 * r)
+nextRoot n r = cond (leb ((2 * r + 1) * (2 * r + 1)) n) (2 * r + 1) (2 * r)
 
 -- the root of n by its digits in base 4, at most as many as the first argument says
 unfoldable pub rootByDigits : (digits n : ℕ) → ℕ

@@ -1,6 +1,6 @@
--- Every case of the table holds, by computation. Assumes nothing.
+-- Every case of the table holds, by computation.
 use mathlib.Core.Bool.{Bool, true, false, _&&_}
-use mathlib.Core.List.{List, [], _∷_}
+use mathlib.Core.List.{List, _∷_}
 use mathlib.Core.Path.{_≡_, refl}
 use Prim.Native.Nat.{ℕ}
 use borrow.Author.Tests.{eqb-true}
@@ -11,7 +11,7 @@ use Rattle.arith.specs.Quotient.{cappedQuotient}
 use Rattle.profile.specs.Passes.{brake, startLimit, forward, planOf}
 use Rattle.machine.specs.Numbers.{lengthFrom, axisLimit, eachAxis, speedOf, torquePercent, axisAccel, accelOf, reachFrom, chordFactor, chordCap, blockCapFrom, numbersOf, turnFrom, cornerFrom, cornerCap, junctionCap, peakOf, upOf, downOf, rampOf}
 use Rattle.machine.specs.Checks.{limitsWithin, limitsRefusal, greatestMove, blockRefusal}
-use Rattle.machine.specs.Line.{stepsAfter, stepsOf}
+use Rattle.machine.specs.Line.{spansAfter, spansOf}
 use Rattle.line.specs.Blocks.{lineAnswer, lineAfter, lineAnswers}
 use Rattle.machine.proofs.Tests.{both}
 use Rattle.cases.specs.Table.{Case, Holds, done, also, table}
@@ -45,5 +45,5 @@ right-holds (c ∷ rest) e = let h = both (same (c .computed) (c .expected)) (ri
 
 -- document 01's starred proof cases
 pub every-case-holds : Holds table
-unfolding table right same rootOf rootByDigits nextRoot cappedQuotient brake startLimit forward planOf lengthFrom axisLimit eachAxis speedOf torquePercent axisAccel accelOf reachFrom chordFactor chordCap blockCapFrom numbersOf turnFrom cornerFrom cornerCap junctionCap peakOf upOf downOf rampOf stepsAfter stepsOf limitsWithin limitsRefusal greatestMove blockRefusal lineAnswer lineAfter lineAnswers
+unfolding table right same rootOf rootByDigits nextRoot cappedQuotient brake startLimit forward planOf lengthFrom axisLimit eachAxis speedOf torquePercent axisAccel accelOf reachFrom chordFactor chordCap blockCapFrom numbersOf turnFrom cornerFrom cornerCap junctionCap peakOf upOf downOf rampOf spansAfter spansOf limitsWithin limitsRefusal greatestMove blockRefusal lineAnswer lineAfter lineAnswers
 every-case-holds = right-holds table refl

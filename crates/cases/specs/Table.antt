@@ -1,6 +1,6 @@
 -- Document 01's starred proof cases, in its order: what the definitions compute, and what the paper says.
 -- The theorem `every-case-holds` of `proofs/` proves them together.
-use mathlib.Core.List.{List, [], _∷_, _++_, map}
+use mathlib.Core.List.{List, _∷_, _++_, map}
 use mathlib.Core.Path.{_≡_}
 use Prim.Native.Nat.{ℕ}
 use lib.IntN.{pos, negℤ}
@@ -8,7 +8,7 @@ use lib.ListN.{replicate}
 use Rattle.profile.specs.Line.{numberAt}
 use Rattle.profile.specs.Passes.{planOf}
 use Rattle.machine.specs.Numbers.{CornerCap, none, upTo, lengthOf, accelOf, reachOf, chordCap, blockCap, cornerCap, numbersOf, rampOf}
-use Rattle.machine.specs.Line.{stepsOf}
+use Rattle.machine.specs.Line.{spansOf}
 use Rattle.machine.specs.declared.Block.{Block}
 use Rattle.machine.specs.declared.Ramp.{Ramp}
 use Rattle.line.specs.Answers.{answerNumber}
@@ -46,7 +46,7 @@ capNumbers (upTo q) = q ∷ []
 
 -- the plan from rest of a line of blocks on machine M
 abbrev plan : List Block → List ℕ
-plan line = planOf 0 (stepsOf machineM line)
+plan line = planOf 0 (spansOf machineM line)
 
 -- peak, up, cruise and down of a line's first block, by the first two numbers of its plan
 abbrev rampNumbers : Ramp → List ℕ

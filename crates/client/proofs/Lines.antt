@@ -1,5 +1,5 @@
--- The lines of the worked results, by computation. Assumes nothing.
-use mathlib.Core.List.{List, [], _∷_}
+-- The lines of the worked results, by computation.
+use mathlib.Core.List.{List, _∷_}
 use mathlib.Core.Path.{_≡_, refl, ap, _∙_}
 use Prim.Native.Nat.{ℕ}
 use native.Mathlib.Omega.{arith}
@@ -10,7 +10,7 @@ use Rattle.arith.specs.Quotient.{cappedQuotient}
 use Rattle.profile.specs.Passes.{brake, startLimit, forward, planOf}
 use Rattle.machine.specs.Checks.{limitsWithin, limitsRefusal, greatestMove, blockRefusal}
 use Rattle.machine.specs.Numbers.{lengthFrom, axisLimit, eachAxis, speedOf, torquePercent, axisAccel, accelOf, reachFrom, chordFactor, blockCapFrom, numbersOf, turnFrom, cornerFrom, cornerCap, junctionCap, peakOf, upOf, downOf, rampOf}
-use Rattle.machine.specs.Line.{stepsAfter, stepsOf}
+use Rattle.machine.specs.Line.{spansAfter, spansOf}
 use Rattle.machine.specs.declared.Block.{Block}
 use Rattle.machine.specs.declared.Limits.{Limits}
 use Rattle.line.specs.Answers.{Answer, accepted, gave, refused, givenOf}
@@ -27,7 +27,7 @@ limits-pass = refl
 
 -- the plan of two blocks straight on
 pub straight-plan : linePlan (lineOfTwo (blockOf (pos 1_000) (pos 0) 0) (blockOf (pos 1_000) (pos 0) 0)) ≡ 0 ∷ 400_000_000 ∷ 0 ∷ []
-unfolding lineAfter rootOf rootByDigits nextRoot cappedQuotient brake startLimit forward planOf lengthFrom axisLimit eachAxis speedOf torquePercent axisAccel accelOf reachFrom chordFactor blockCapFrom numbersOf turnFrom cornerFrom cornerCap junctionCap stepsAfter stepsOf greatestMove blockRefusal
+unfolding lineAfter rootOf rootByDigits nextRoot cappedQuotient brake startLimit forward planOf lengthFrom axisLimit eachAxis speedOf torquePercent axisAccel accelOf reachFrom chordFactor blockCapFrom numbersOf turnFrom cornerFrom cornerCap junctionCap spansAfter spansOf greatestMove blockRefusal
 straight-plan = refl
 
 -- one block added to a fresh planner on machine M, and two: the memory holds their line
@@ -50,20 +50,20 @@ north = blockOf (pos 0) (pos 1_000) 8
 
 -- its first block, as the line gives it out
 first-answer : lineAnswer (lineOfTwo east north) take ≡ gave (givenOf machineM east 0 2_000_000)
-unfolding lineAfter lineAnswer givenOf rootOf rootByDigits nextRoot cappedQuotient brake startLimit forward planOf lengthFrom axisLimit eachAxis speedOf torquePercent axisAccel accelOf reachFrom chordFactor blockCapFrom numbersOf turnFrom cornerFrom cornerCap junctionCap peakOf upOf downOf rampOf stepsAfter stepsOf greatestMove blockRefusal
+unfolding lineAfter lineAnswer givenOf rootOf rootByDigits nextRoot cappedQuotient brake startLimit forward planOf lengthFrom axisLimit eachAxis speedOf torquePercent axisAccel accelOf reachFrom chordFactor blockCapFrom numbersOf turnFrom cornerFrom cornerCap junctionCap peakOf upOf downOf rampOf spansAfter spansOf greatestMove blockRefusal
 first-answer = refl
 
 -- and its second
 second-answer : lineAnswer (lineAfter (lineOfTwo east north) take) take ≡ gave (givenOf machineM north 2_000_000 0)
-unfolding lineAfter lineAnswer givenOf rootOf rootByDigits nextRoot cappedQuotient brake startLimit forward planOf lengthFrom axisLimit eachAxis speedOf torquePercent axisAccel accelOf reachFrom chordFactor blockCapFrom numbersOf turnFrom cornerFrom cornerCap junctionCap peakOf upOf downOf rampOf stepsAfter stepsOf greatestMove blockRefusal
+unfolding lineAfter lineAnswer givenOf rootOf rootByDigits nextRoot cappedQuotient brake startLimit forward planOf lengthFrom axisLimit eachAxis speedOf torquePercent axisAccel accelOf reachFrom chordFactor blockCapFrom numbersOf turnFrom cornerFrom cornerCap junctionCap peakOf upOf downOf rampOf spansAfter spansOf greatestMove blockRefusal
 second-answer = refl
 
 first-numbers : Gives (givenOf machineM east 0 2_000_000) 7 0 2_000_000 502 497
-unfolding lineAfter lineAnswer givenOf rootOf rootByDigits nextRoot cappedQuotient brake startLimit forward planOf lengthFrom axisLimit eachAxis speedOf torquePercent axisAccel accelOf reachFrom chordFactor blockCapFrom numbersOf turnFrom cornerFrom cornerCap junctionCap peakOf upOf downOf rampOf stepsAfter stepsOf greatestMove blockRefusal
+unfolding lineAfter lineAnswer givenOf rootOf rootByDigits nextRoot cappedQuotient brake startLimit forward planOf lengthFrom axisLimit eachAxis speedOf torquePercent axisAccel accelOf reachFrom chordFactor blockCapFrom numbersOf turnFrom cornerFrom cornerCap junctionCap peakOf upOf downOf rampOf spansAfter spansOf greatestMove blockRefusal
 first-numbers = record { mark-is = refl; length-is = refl; accel-is = refl; entry-is = refl; exit-is = refl; peak-is = refl; up-is = refl; cruise-is = refl; down-is = refl }
 
 second-numbers : Gives (givenOf machineM north 2_000_000 0) 8 2_000_000 0 497 502
-unfolding lineAfter lineAnswer givenOf rootOf rootByDigits nextRoot cappedQuotient brake startLimit forward planOf lengthFrom axisLimit eachAxis speedOf torquePercent axisAccel accelOf reachFrom chordFactor blockCapFrom numbersOf turnFrom cornerFrom cornerCap junctionCap peakOf upOf downOf rampOf stepsAfter stepsOf greatestMove blockRefusal
+unfolding lineAfter lineAnswer givenOf rootOf rootByDigits nextRoot cappedQuotient brake startLimit forward planOf lengthFrom axisLimit eachAxis speedOf torquePercent axisAccel accelOf reachFrom chordFactor blockCapFrom numbersOf turnFrom cornerFrom cornerCap junctionCap peakOf upOf downOf rampOf spansAfter spansOf greatestMove blockRefusal
 second-numbers = record { mark-is = refl; length-is = refl; accel-is = refl; entry-is = refl; exit-is = refl; peak-is = refl; up-is = refl; cruise-is = refl; down-is = refl }
 
 same-given : (g h : Given) → gave g ≡ gave h → g ≡ h

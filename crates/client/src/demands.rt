@@ -1,20 +1,20 @@
 // Demand 3 of calls that are made: two adds and a take in lent memory, by value and through the
 // functions for C, and the plan of a tape. Each is the planner's theorem at the call's own promises.
-ghost use mathlib.Core.List.{[], _∷_};
+ghost use mathlib.Core.List.{_∷_};
 ghost use mathlib.Core.Path.{_≡_};
 ghost use Prim.Native.Nat.{_+_};
 ghost use lib.ListN.{length};
-ghost use Rattle.machine.specs.Checks.{checkedNumber};
+ghost use Rattle.display.specs.Display.{checkedMeans};
+ghost use Rattle.tape.specs.Answers.{tapeRefusal};
 ghost use Rattle.machine.specs.Lists.{limitsFrom};
 ghost use Rattle.line.specs.Answers.{addMeans, showMeans, takeMeans};
-ghost use Rattle.line.specs.Blocks as blocks;
 ghost use Rattle.line.specs.Demand.{Demand3};
-ghost use Rattle.tape.specs.Display.{tapeRefusal};
 ghost use Rattle.tape.specs.Tape.{recordsIn};
 ghost use Rattle.tapeplan.specs.Planned.{TapeDemand3};
 ghost use Rattle.fullerecru.specs.Planners as seen;
 ghost use Rattle.fullerecru.specs.Planners.{ExportedDemand3};
 ghost use Rattle.client.specs.Work.{pairCalls};
+use display::Checked;
 use fullerecru::planners::fullerecru_add;
 use fullerecru::planners::fullerecru_fresh;
 use fullerecru::planners::fullerecru_shown;
@@ -24,7 +24,6 @@ use line::AddAnswer;
 use line::ShowAnswer;
 use line::TakeAnswer;
 use machine::Block;
-use machine::Checked;
 use machine::Limits;
 use planner::NUMBERS;
 use planner::Planner;
@@ -59,7 +58,7 @@ pub fn in_memory(
     b: Block,
     list: &mut [u64],
 ) -> Answered
-    ensures { λ r. ⌜ (checkedNumber (r .made) ≡ 0 → Demand3 l (pairCalls a b) (addMeans (r .first) ∷ addMeans (r .second) ∷ takeMeans (r .third) ∷ []) (r .told) (now (list .entry)) (showMeans (r .shown)) (now (list .exit))) ⌝ }
+    ensures { λ r. ⌜ (checkedMeans (r .made) ≡ 0 → Demand3 l (pairCalls a b) (addMeans (r .first) ∷ addMeans (r .second) ∷ takeMeans (r .third) ∷ []) (r .told) (now (list .entry)) (showMeans (r .shown)) (now (list .exit))) ⌝ }
 {
     let made = planner::fresh(memory, l);
     let first = planner::add(memory, a);
@@ -79,7 +78,7 @@ pub fn in_memory(
 
 // By value.
 pub fn by_value(l: Limits, a: Block, b: Block, list: &mut [u64]) -> Answered
-    ensures { λ r. ⌜ (checkedNumber (r .made) ≡ 0 → Demand3 l (pairCalls a b) (addMeans (r .first) ∷ addMeans (r .second) ∷ takeMeans (r .third) ∷ []) (r .told) (now (list .entry)) (showMeans (r .shown)) (now (list .exit))) ⌝ }
+    ensures { λ r. ⌜ (checkedMeans (r .made) ≡ 0 → Demand3 l (pairCalls a b) (addMeans (r .first) ∷ addMeans (r .second) ∷ takeMeans (r .third) ∷ []) (r .told) (now (list .entry)) (showMeans (r .shown)) (now (list .exit))) ⌝ }
 {
     let fresh = Planner::fresh(l);
     let planner = fresh.planner;

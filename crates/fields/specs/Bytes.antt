@@ -1,4 +1,4 @@
--- Bytes as a number, most significant byte first: the layout whose widths are all 8. Assumes nothing.
+-- Bytes as a number, most significant byte first: the layout whose widths are all 8.
 use Prim.Native.Nat.{ℕ, _+_, _<_}
 use mathlib.Core.List.{List, _++_}
 use lib.ListN.{length, getD, take, drop, replicate}

@@ -1,5 +1,4 @@
 -- Bit fields in bytes, most significant bit first: bit 0 is the highest bit of byte 0. Offsets and widths are in bits.
--- Assumes nothing.
 use mathlib.Core.Path.{_≡_}
 use Prim.Native.Nat.{ℕ, _+_, _-_, _*_, _/_, _%_, _^_, _<_}
 use mathlib.Core.List.{List}

@@ -1,4 +1,4 @@
--- Two's complement of any width. Assumes nothing.
+-- Two's complement of any width.
 use Prim.Native.Nat.{ℕ, suc, _+_, _-_, _%_, _^_}
 use mathlib.Core.Bool.{cond}
 use lib.Dec.{ltb}

@@ -1,10 +1,10 @@
--- Each promise to C has one outcome: the number returned, the memory and the lent lists. Assumes nothing.
+-- Each promise to C has one outcome: the number returned, the memory and the lent lists.
 use mathlib.Core.List.{List, _++_}
 use mathlib.Core.Path.{_≡_, refl, sym, ap, subst, _∙_}
 use Prim.Native.Nat.{ℕ, zero, suc, _+_}
 use native.Mathlib.Omega.{arith}
 use lib.IntN.{ℤ}
-use lib.ListN.{length, take, drop, take-append-drop}
+use lib.ListN.{length, drop, take-append-drop}
 use Rattle.machine.specs.declared.Block.{Block}
 use Rattle.machine.specs.declared.Limits.{Limits}
 use Rattle.line.specs.Answers.{Answer, answerBy, answerNumber}

@@ -1,4 +1,4 @@
--- From a call's promise to that of the function for C. Assumes nothing.
+-- From a call's promise to that of the function for C.
 use mathlib.Core.List.{List}
 use mathlib.Core.Path.{_≡_, refl, sym, ap, subst, _∙_}
 use Prim.Native.Nat.{ℕ, zero, suc, _<_}
@@ -8,7 +8,7 @@ use lib.ListN.{length}
 use Rattle.machine.specs.declared.Block.{Block}
 use Rattle.machine.specs.declared.Limits.{Limits}
 use Rattle.line.specs.Answers.{Answer, accepted, gave, refused, answerBy, answerNumber}
-use Rattle.line.specs.Blocks.{Call, add, take, addRefusal}
+use Rattle.line.specs.Blocks.{add, take, addRefusal}
 use Rattle.line.specs.Ring.{ringAnswer, showRefusal}
 use Rattle.planner.specs.Calls.{Called, Freshened, Showed}
 use Rattle.planner.specs.View.{viewOf}

@@ -1,15 +1,15 @@
--- From what the tape's readers and writers promise to the promises of their functions for C. Assumes nothing.
+-- From what the tape's readers and writers promise to the promises of their functions for C.
 use mathlib.Core.List.{List}
 use mathlib.Core.Path.{_≡_, sym, ap, _∙_}
 use Prim.Native.Nat.{ℕ}
 use lib.IntN.{ℤ}
-use Rattle.machine.specs.Checks.{checkedNumber}
+use Rattle.display.specs.Display.{checkedMeans, given, refused}
+use Rattle.tape.specs.Answers.{limitsReadRefusal, readLimits, recordReadRefusal, readRecord, Wrote}
+use Rattle.display.proofs.Answers.{at-zero, above-zero, given-is, refused-is}
 use Rattle.machine.specs.declared.Block.{Block}
-use Rattle.machine.specs.declared.Checked.{Checked}
+use Rattle.display.specs.declared.Checked.{Checked}
 use Rattle.machine.specs.declared.Limits.{Limits}
 use Rattle.tape.specs.Tape.{limitsAt, blockAt}
-use Rattle.tape.specs.Display.{given, refused, limitsReadRefusal, readLimits, recordReadRefusal, readRecord, Wrote}
-use Rattle.tape.proofs.Answers.{at-zero, above-zero, given-is, refused-is}
 use Rattle.fullerecru.specs.Moves.{blockMoves}
 use Rattle.fullerecru.specs.Tapes.{limitsList, blockNumbers, PutBlock, LimitsLent, RecordLent, Written}
 
@@ -51,5 +51,5 @@ module _ (bytes : List ℕ) where
       }
 
 -- What is written, by its number.
-pub written : {refusal : ℕ} {t bytes′ : List ℕ} {r : Checked} (n : ℕ) → Wrote refusal t r bytes′ → n ≡ checkedNumber r → Written refusal t n bytes′
+pub written : {refusal : ℕ} {t bytes′ : List ℕ} {r : Checked} (n : ℕ) → Wrote refusal t r bytes′ → n ≡ checkedMeans r → Written refusal t n bytes′
 written n w e = record { number-is = e ∙ w .number; bytes-are = w .bytes }

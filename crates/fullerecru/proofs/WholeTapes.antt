@@ -1,15 +1,13 @@
--- From what the whole-tape planner and the replay promise to the promises of their functions for C. Assumes nothing.
-use mathlib.Core.List.{List, [], _∷_}
+-- From what the whole-tape planner and the replay promise to the promises of their functions for C.
+use mathlib.Core.List.{List, _∷_}
 use mathlib.Core.Path.{_≡_, refl, sym, ap, subst, _∙_}
 use Prim.Native.Nat.{ℕ, _<_}
 use native.Mathlib.Omega.{arith}
-use Rattle.machine.specs.Checks.{refusalNumber}
-use Rattle.machine.specs.declared.Refusal.{Refusal}
-use Rattle.machine.proofs.AnswerLaws.{refusal-above}
+use Rattle.display.specs.Display.{refusalNumber, Fault}
+use Rattle.display.proofs.Answers.{refusal-above, above-zero}
+use Rattle.display.specs.declared.Refusal.{Refusal}
 use Rattle.tape.specs.Tape.{limitsAt}
-use Rattle.tape.specs.Display.{Fault}
-use Rattle.tape.proofs.Answers.{above-zero}
-use Rattle.tapeplan.specs.Planned.{plannedFault, PlannedTape}
+use Rattle.tapeplan.specs.Planned.{PlannedTape, plannedMeans}
 use Rattle.tapeplan.specs.declared.TapePlanned.{TapePlanned}
 use Rattle.replay.specs.Trace.{traceCalls}
 use Rattle.replay.specs.Replays.{Demanded, Replays}
@@ -18,7 +16,7 @@ use Rattle.fullerecru.specs.Plans.{PlanLent, toldAfter, ReplayLent}
 
 -- A whole tape, by the number and the place of its answer.
 pub planned : {tape list list′ place′ : List ℕ} {r : TapePlanned} (n : ℕ) → PlannedTape tape list list′ r
-    → n ≡ plannedFault r .number → place′ ≡ plannedFault r .place ∷ [] → PlanLent tape n list list′ place′
+    → n ≡ plannedMeans r .number → place′ ≡ plannedMeans r .place ∷ [] → PlanLent tape n list list′ place′
 planned n p e f =
     let number = ap (λ (x : Fault). x .number) (p .fault) in
     record {

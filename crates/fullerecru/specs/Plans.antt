@@ -1,5 +1,5 @@
 -- What the functions for C on whole tapes and traces return and leave in the lists that they are lent.
-use mathlib.Core.List.{List, [], _∷_}
+use mathlib.Core.List.{List, _∷_}
 use mathlib.Core.Path.{_≡_}
 use Prim.Native.Nat.{ℕ, _<_}
 use lib.ListN.{length}
@@ -7,8 +7,8 @@ use Rattle.profile.specs.Line.{Highest}
 use Rattle.profile.specs.Passes.{planOf}
 use Rattle.line.specs.Blocks.{freshLine, lineAfterAll}
 use Rattle.tape.specs.Tape.{limitsAt}
-use Rattle.tape.specs.Display.{byNumber}
-use Rattle.tapeplan.specs.Planned.{tapeSteps, planFault}
+use Rattle.display.specs.Display.{byNumber}
+use Rattle.tapeplan.specs.Planned.{tapeSpans, planFault}
 use Rattle.replay.specs.Trace.{traceCalls}
 use Rattle.replay.specs.Replays.{replayRefusal, Demanded, Unchanged}
 
@@ -17,8 +17,8 @@ use Rattle.replay.specs.Replays.{replayRefusal, Demanded, Unchanged}
 pub record PlanLent (tape : List ℕ) (number : ℕ) (list list′ place′ : List ℕ) : Type 0 where
   pub number-is : number ≡ planFault tape (length list) .number
   pub place-is : place′ ≡ planFault tape (length list) .place ∷ []
-  pub list-is : list′ ≡ byNumber (planFault tape (length list) .number) (planOf 0 (tapeSteps tape)) list
-  pub highest : number ≡ 0 → Highest 0 (tapeSteps tape) list′
+  pub list-is : list′ ≡ byNumber (planFault tape (length list) .number) (planOf 0 (tapeSpans tape)) list
+  pub highest : number ≡ 0 → Highest 0 (tapeSpans tape) list′
 
 -- the number of blocks held after a trace
 abbrev pub toldAfter : List ℕ → ℕ

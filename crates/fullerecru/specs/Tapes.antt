@@ -1,5 +1,5 @@
 -- What the functions for C on limits and records as bytes return and leave in the lists that they are lent.
-use mathlib.Core.List.{List, [], _∷_}
+use mathlib.Core.List.{List, _∷_}
 use mathlib.Core.Path.{_≡_}
 use Prim.Native.Nat.{ℕ}
 use lib.IntN.{ℤ}
@@ -7,7 +7,8 @@ use Rattle.machine.specs.declared.Block.{Block}
 use Rattle.machine.specs.declared.Limits.{Limits}
 use Rattle.machine.specs.Lists.{limitNumbers}
 use Rattle.tape.specs.Tape.{limitsAt, blockAt}
-use Rattle.tape.specs.Display.{byNumber, limitsReadRefusal, recordReadRefusal}
+use Rattle.display.specs.Display.{byNumber}
+use Rattle.tape.specs.Answers.{limitsReadRefusal, recordReadRefusal}
 use Rattle.fullerecru.specs.Moves.{blockMoves}
 
 -- limits as nine numbers

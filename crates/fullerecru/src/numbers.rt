@@ -1,24 +1,11 @@
 // What the functions for C share: the number of a check's answer, limits as nine numbers, moves as three.
 ghost use mathlib.Core.Path.{_≡_};
 ghost use lib.ListN.{length};
-ghost use Rattle.machine.specs.Checks.{checkedNumber};
 ghost use Rattle.machine.specs.Lists.{limitsFrom};
 ghost use Rattle.fullerecru.specs.Moves.{blockMoves};
 use machine::Axes;
 use machine::Block;
-use machine::Checked;
 use machine::Limits;
-use machine::check::refusal_number;
-
-// The number on the display of a check's answer.
-pub fn checked_number(c: Checked) -> u64
-    ensures { λ r. ⌜ r ≡ checkedNumber c ⌝ }
-{
-    match c {
-        Checked::Passed => 0,
-        Checked::Refused(why) => refusal_number(why),
-    }
-}
 
 // The limits of nine numbers.
 pub fn limits_of(list: &[u64]) -> Limits

@@ -2,14 +2,14 @@
 ghost use mathlib.Core.Path.{_≡_};
 ghost use lib.ListN.{length};
 ghost use Rattle.machine.specs.Lists.{limitsFrom};
-ghost use Rattle.tape.specs.Display.{limitsWriteRefusal, limitsWritten, recordWriteRefusal, recordWritten};
+ghost use Rattle.tape.specs.Answers.{limitsWriteRefusal, limitsWritten, recordWriteRefusal, recordWritten};
 ghost use Rattle.fullerecru.specs.Tapes.{LimitsLent, PutBlock, RecordLent, Written, limitsList};
-use crate::numbers::checked_number;
 use crate::numbers::limits_of;
 use crate::numbers::put_moves;
+use display::checked_number;
+use display::refusal_number;
 use machine::Block;
 use machine::Limits;
-use machine::check::refusal_number;
 use tape::LimitsRead;
 use tape::RecordRead;
 use tape::limits::read_limits;

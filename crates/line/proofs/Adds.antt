@@ -1,23 +1,23 @@
--- An add: a ring that holds a line answers as the line does and holds the line afterwards. From the laws of steps, places and
--- the walk back. Assumes nothing.
-use mathlib.Core.Bool.{Bool, true, false}
+-- An add: a ring that holds a line answers as the line does and holds the line afterwards. From the laws of spans, places and
+-- the walk back.
+use mathlib.Core.Bool.{cond}
 use mathlib.Core.Path.{_≡_, refl, ap, sym, subst, _∙_}
-use mathlib.Core.List.{List, [], _∷_, _++_}
+use mathlib.Core.List.{List, _∷_, _++_}
 use Prim.Native.Nat.{ℕ, zero, suc, _+_, _-_, _≤_, _<_}
 use native.Mathlib.Numerals.{add-one}
 use native.Mathlib.Decide.{decLt}
 use native.Mathlib.Omega.{arith}
 use borrow.Author.Tests.{leb-false, ne-eqb}
-use lib.Dec.{leb, eqb}
+use lib.Dec.{eqb}
 use lib.ListN.{length, set, length-set, length-append, List·getD-append}
 use lib.Seq.{getD-at}
-use Rattle.profile.specs.Line.{Step, noStep, stepAt, capAt, reachAt}
+use Rattle.display.proofs.Answers.{then-zero, not-picked}
+use Rattle.profile.specs.Line.{Span, noSpan, spanAt, capAt, reachAt}
 use Rattle.profile.specs.Passes.{startLimit, CanBrake}
 use Rattle.profile.proofs.Brake.{add-keeps}
 use Rattle.profile.proofs.Kept.{Extended, extended-first}
-use Rattle.machine.specs.Answers.{firstOf}
-use Rattle.machine.specs.Checks.{blockRefusal, pick}
-use Rattle.machine.specs.Line.{stepsOf}
+use Rattle.machine.specs.Checks.{blockRefusal}
+use Rattle.machine.specs.Line.{spansOf}
 use Rattle.machine.specs.Numbers.{numbersOf, blockCap}
 use Rattle.machine.specs.declared.Block.{Block}
 use Rattle.machine.specs.declared.Limits.{Limits}
@@ -25,8 +25,8 @@ use Rattle.line.specs.Answers.{answerBy}
 use Rattle.line.specs.Blocks.{mostHeld, Line, add, addRefusal, addAfter, lineAnswer, lineAfter}
 use Rattle.line.specs.Ring.{Place, Ring, cutLimits, slot, placeAt, blockIn, numbersIn, placeOf, junctionAfter, newJunction, walkBack, putLast, addedIn, ringAnswer, ringAfter}
 use Rattle.line.specs.Holds.{noBlock, blockAt, keptAt, Placed, Holds}
-use Rattle.machine.proofs.Steps.{steps-length, steps-first, steps-cap}
-use Rattle.line.proofs.Steps.{steps-last}
+use Rattle.machine.proofs.Spans.{spans-length, spans-first, spans-cap}
+use Rattle.line.proofs.Spans.{spans-last}
 use Rattle.line.proofs.Places.{limits-kept, block-back, junction-back, placed-reach, place-same, place-other}
 use Rattle.line.proofs.Walk.{Walked, walk-walked, Fitting, walk-braked}
 
@@ -65,22 +65,22 @@ module _ (blocks : List Block) (b : Block) where
 
   module _ (l : Limits) where
     -- the step of the new block
-    abbrev newStep : Step
-    newStep = stepAt (stepsOf l more) (length blocks)
+    abbrev newSpan : Span
+    newSpan = spanAt (spansOf l more) (length blocks)
 
     -- the caps of the old ones are as they were
-    steps-old : (k : ℕ) → k < length blocks → capAt (stepsOf l more) k ≡ capAt (stepsOf l blocks) k
-    steps-old k h =
-        ap (λ (s : List Step). capAt s k) (steps-last l blocks b)
-        ∙ ap (λ (s : Step). s .cap) (List·getD-append (stepsOf l blocks) (newStep ∷ []) noStep k (omega (arith, steps-length l blocks)))
+    spans-old : (k : ℕ) → k < length blocks → capAt (spansOf l more) k ≡ capAt (spansOf l blocks) k
+    spans-old k h =
+        ap (λ (s : List Span). capAt s k) (spans-last l blocks b)
+        ∙ ap (λ (s : Span). s .cap) (List·getD-append (spansOf l blocks) (newSpan ∷ []) noSpan k (omega (arith, spans-length l blocks)))
 
     -- the committed squared speed stays within the first block's cap: in an empty line it is 0
-    more-entered : (committed : ℕ) → CanBrake committed (stepsOf l blocks) → (0 < length blocks → committed ≤ blockCap l (blockAt blocks 0))
+    more-entered : (committed : ℕ) → CanBrake committed (spansOf l blocks) → (0 < length blocks → committed ≤ blockCap l (blockAt blocks 0))
         → committed ≤ blockCap l (blockAt more 0)
-    unfolding stepsOf startLimit
+    unfolding spansOf startLimit
     more-entered committed = go blocks
       where
-        go : (bs : List Block) → CanBrake committed (stepsOf l bs) → (0 < length bs → committed ≤ blockCap l (blockAt bs 0)) → committed ≤ blockCap l (blockAt (bs ++ b ∷ []) 0)
+        go : (bs : List Block) → CanBrake committed (spansOf l bs) → (0 < length bs → committed ≤ blockCap l (blockAt bs 0)) → committed ≤ blockCap l (blockAt (bs ++ b ∷ []) 0)
         go [] c e = omega arith
         go (a ∷ bs) c e = e (omega arith)
 
@@ -89,32 +89,32 @@ module _ {r : Ring} {line : Line} (b : Block) (h : Holds r line) (passed : block
   abbrev longer : List Block
   longer = line .blocks ++ b ∷ []
 
-  abbrev steps : List Step
-  steps = stepsOf (line .limits) longer
+  abbrev spans : List Span
+  spans = spansOf (line .limits) longer
 
   -- the place as the ring's definition has it, and as the line has it
   abbrev stored : Place
   stored = placeOf b (numbersOf (cutLimits (r .limits)) b) (newJunction r b)
 
   abbrev wanted : Place
-  wanted = placeOf b (numbersOf (line .limits) b) (capAt steps (length (line .blocks)))
+  wanted = placeOf b (numbersOf (line .limits) b) (capAt spans (length (line .blocks)))
 
   -- they are the same: the limits are used as they are,
   cut : cutLimits (r .limits) ≡ line .limits
   cut = ap cutLimits (h .limits) ∙ limits-kept (line .limits) (h .limited)
 
   -- and the junction cap is that of the new step
-  new-junction : newJunction r b ≡ capAt steps (length (line .blocks))
+  new-junction : newJunction r b ≡ capAt spans (length (line .blocks))
   new-junction = go (r .count) (h .counted)
     where
       go : (c : ℕ) → c ≡ length (line .blocks)
-          → pick (eqb c 0) 0 (junctionAfter (cutLimits (r .limits)) (placeAt r (c - 1)) b (numbersOf (cutLimits (r .limits)) b)) ≡ capAt steps (length (line .blocks))
-      go zero e = rw (← e) (sym (steps-first (line .limits) longer))
+          → cond (eqb c 0) 0 (junctionAfter (cutLimits (r .limits)) (placeAt r (c - 1)) b (numbersOf (cutLimits (r .limits)) b)) ≡ capAt spans (length (line .blocks))
+      go zero e = rw (← e) (sym (spans-first (line .limits) longer))
       go (suc c) e =
           let before : suc c - 1 ≡ c = omega arith in
           let held : c < length (line .blocks) = omega arith in
           let last : blockAt longer (suc c) ≡ b = rw e (more-last (line .blocks) b) in
-          rw (ne-eqb (suc c) 0 (omega arith), before, cut, ← e, steps-cap noBlock (line .limits) longer c (omega (arith, more-length (line .blocks) b)), more-old (line .blocks) b c held, last)
+          rw (ne-eqb (suc c) 0 (omega arith), before, cut, ← e, spans-cap noBlock (line .limits) longer c (omega (arith, more-length (line .blocks) b)), more-old (line .blocks) b c held, last)
           (junction-back (line .limits) (placeAt r c) (blockAt (line .blocks) c) b (h .passed c held) (h .placed .block c held) (h .placed .numbers c held))
 
   stored-is : stored ≡ wanted
@@ -140,54 +140,54 @@ module _ {r : Ring} {line : Line} (b : Block) (h : Holds r line) (passed : block
     block =
         more-each (line .blocks) b (λ k c. blockIn (placeAt put k) ≡ c)
         (λ k g. ap blockIn (put-old k g) ∙ h .placed .block k g)
-        (ap blockIn put-last ∙ block-back b (numbersOf (line .limits) b) (capAt steps (length (line .blocks))) passed);
+        (ap blockIn put-last ∙ block-back b (numbersOf (line .limits) b) (capAt spans (length (line .blocks))) passed);
     numbers =
         more-each (line .blocks) b (λ k c. numbersIn (placeAt put k) ≡ numbersOf (line .limits) c)
         (λ k g. ap numbersIn (put-old k g) ∙ h .placed .numbers k g)
         (ap numbersIn put-last);
     junction = λ k q g.
-        more-each (line .blocks) b (λ k c. 0 < k → placeAt put k .junction ≡ capAt steps k)
-        (λ k g q. ap (λ (p : Place). p .junction) (put-old k g) ∙ h .placed .junction k q g ∙ sym (steps-old (line .blocks) b (line .limits) k g))
+        more-each (line .blocks) b (λ k c. 0 < k → placeAt put k .junction ≡ capAt spans k)
+        (λ k g q. ap (λ (p : Place). p .junction) (put-old k g) ∙ h .placed .junction k q g ∙ sym (spans-old (line .blocks) b (line .limits) k g))
         (λ q. ap (λ (p : Place). p .junction) put-last)
         k g q;
   }
 
-  -- the longer line's steps are the old ones and one more
-  abbrev old : List Step
-  old = stepsOf (line .limits) (line .blocks)
+  -- the longer line's spans are the old ones and one more
+  abbrev old : List Span
+  old = spansOf (line .limits) (line .blocks)
 
-  abbrev step : Step
-  step = newStep (line .blocks) b (line .limits)
+  abbrev step : Span
+  step = newSpan (line .blocks) b (line .limits)
 
   old-length : length old ≡ length (line .blocks)
-  old-length = steps-length (line .limits) (line .blocks)
+  old-length = spans-length (line .limits) (line .blocks)
 
   old-room : length old < mostHeld
   old-room = omega (arith, old-length)
 
-  split : steps ≡ old ++ (step ∷ [])
-  split = steps-last (line .limits) (line .blocks) b
+  split : spans ≡ old ++ (step ∷ [])
+  split = spans-last (line .limits) (line .blocks) b
 
   -- so the walk back may begin: the caps and reaches fit,
   put-fits : Fitting old step old-room put
   put-fits = record {
     sized = put-sized;
     caps = λ k q g.
-        put-placed .junction k q (omega (arith, old-length, more-length (line .blocks) b)) ∙ ap (λ (s : List Step). capAt s k) split;
+        put-placed .junction k q (omega (arith, old-length, more-length (line .blocks) b)) ∙ ap (λ (s : List Span). capAt s k) split;
     reaches = λ k q g.
-        placed-reach put-placed k (omega (arith, old-length, more-length (line .blocks) b)) ∙ ap (λ (s : List Step). reachAt s k) split;
+        placed-reach put-placed k (omega (arith, old-length, more-length (line .blocks) b)) ∙ ap (λ (s : List Span). reachAt s k) split;
   }
 
   -- and the limits are still those of the old line
   put-extends : Extended old step (keptAt put) (r .count)
   put-extends =
       extended-first old step (keptAt r) (keptAt put) (r .count) (h .counted ∙ sym old-length)
-      (rw (add-one (r .count)) (ap (λ (p : Place). p .limit) (place-same r (h .sized) (r .count) stored)))
+      (rw (add-one (r .count)) (ap (λ (p : Place). p .brake) (place-same r (h .sized) (r .count) stored)))
       same (h .kept)
     where
       same : (i : ℕ) → 0 < i → i ≤ r .count → keptAt put i ≡ keptAt r i
       same zero p q = refl
-      same (suc k) p q = ap (λ (p : Place). p .limit) (put-old k (omega (arith, h .counted)))
+      same (suc k) p q = ap (λ (p : Place). p .brake) (put-old k (omega (arith, h .counted)))
 
   -- after the walk back the ring holds the line with the block last
   put-holds : Holds (putLast r b) (record { limits = line .limits; committed = line .committed; blocks = longer })
@@ -210,12 +210,7 @@ module _ {r : Ring} {line : Line} (b : Block) (h : Holds r line) (passed : block
 
 -- an add that is not refused: its block passes 2 to 6 and there is room
 not-refused : (held : ℕ) (b : Block) → addRefusal held b ≡ 0 → (blockRefusal b ≡ 0) × (held < mostHeld)
-not-refused held b = go (blockRefusal b) (leb mostHeld held) refl
-  where
-    go : (n : ℕ) (t : Bool) → leb mostHeld held ≡ t → firstOf n (pick t 7 0) ≡ 0 → (n ≡ 0) × (held < mostHeld)
-    go zero true f e = absurd (omega arith)
-    go zero false f e = (refl, leb-false mostHeld held f)
-    go (suc n) t f e = absurd (omega arith)
+not-refused held b e = let z = then-zero (blockRefusal b) e in (z .0, leb-false mostHeld held (not-picked _ (lit< tt) (z .1)))
 
 -- An add is answered as the line says, and the ring holds the line afterwards.
 pub holds-add : {r : Ring} {line : Line} (b : Block) → Holds r line

@@ -1,13 +1,13 @@
 -- A list of calls of any length, refused ones included: a ring that holds the fresh line is answered as the line says and holds the line
--- after them. From the laws of one call. Assumes nothing.
+-- after them. From the laws of one call.
 use mathlib.Core.Path.{_≡_, refl, _∙_}
-use mathlib.Core.List.{List, [], _∷_}
+use mathlib.Core.List.{List, _∷_}
 use Prim.Native.Nat.{ℕ, zero, suc}
 use native.Mathlib.Omega.{arith}
 use lib.ListN.{length}
 use Rattle.profile.specs.Passes.{brake}
 use Rattle.machine.specs.Checks.{limitsRefusal}
-use Rattle.machine.specs.Line.{stepsOf}
+use Rattle.machine.specs.Line.{spansOf}
 use Rattle.machine.specs.declared.Block.{Block}
 use Rattle.machine.specs.declared.Limits.{Limits}
 use Rattle.line.specs.Blocks.{mostHeld, Line, Call, add, take, freshLine, addRefusal, addAfter, takeAfter, linePlan, lineAnswer, lineAfter, lineAnswers, lineAfterAll}
@@ -18,7 +18,7 @@ use Rattle.line.proofs.Takes.{holds-take}
 
 -- A fresh ring holds the fresh line, whatever its places hold.
 pub holds-fresh : (l : Limits) (places : List Place) → limitsRefusal l ≡ 0 → length places ≡ mostHeld → Holds (freshRing l places) (freshLine l)
-unfolding stepsOf brake
+unfolding spansOf brake
 holds-fresh l places e s = record {
   limited = e;
   limits = refl;

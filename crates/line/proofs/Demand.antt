@@ -1,4 +1,4 @@
--- Demand 3 has one outcome: two that meet it for the same calls and the same length of a lent list are equal. Assumes nothing.
+-- Demand 3 has one outcome: two that meet it for the same calls and the same length of a lent list are equal.
 use mathlib.Core.Bool.{Bool, true, false}
 use mathlib.Core.List.{List}
 use mathlib.Core.Path.{_≡_, refl, sym, _∙_}

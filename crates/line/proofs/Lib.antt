@@ -1,5 +1,5 @@
 -- A ring that holds a line answers each call as the line does, and holds the line after it.
-pub mod Steps
+pub mod Spans
 pub mod Places
 pub mod Walk
 pub mod Adds

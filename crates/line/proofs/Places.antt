@@ -1,6 +1,5 @@
 -- A place of the ring: the block, the limits, the junction cap and the reach that come back from it, and what a store changes.
 -- From the ranges of what passes the checks.
--- Assumes nothing.
 use mathlib.Core.Logic.{_≢_}
 use mathlib.Core.Path.{_≡_, ap, sym, _∙_}
 use mathlib.Core.List.{List}
@@ -14,7 +13,7 @@ use Rattle.fields.specs.Signed.{signedOf, bitsOf}
 use Rattle.fields.proofs.Signed.{signed-bits, mag-natAbs}
 use Rattle.profile.specs.Line.{reachAt}
 use Rattle.machine.specs.Checks.{limitsRefusal, blockRefusal}
-use Rattle.machine.specs.Line.{stepsOf}
+use Rattle.machine.specs.Line.{spansOf}
 use Rattle.machine.specs.Numbers.{LimitsBelow, numbersOf, lengthOf, blockCap, junctionCap, cornerCap}
 use Rattle.machine.specs.declared.Block.{Block}
 use Rattle.machine.specs.declared.Limits.{Limits}
@@ -23,7 +22,7 @@ use Rattle.machine.proofs.Bounds.{limits-below, moves-below, short}
 use Rattle.line.specs.Blocks.{mostHeld}
 use Rattle.line.specs.Ring.{Place, Ring, noPlace, cutLimits, slot, placeAt, withPlace, blockIn, numbersIn, placeOf, junctionAfter}
 use Rattle.line.specs.Holds.{Placed, noBlock}
-use Rattle.machine.proofs.Steps.{steps-reach}
+use Rattle.machine.proofs.Spans.{spans-reach}
 
 -- limits that pass 1 are used as they are
 pub limits-kept : (l : Limits) → limitsRefusal l ≡ 0 → cutLimits l ≡ l
@@ -61,10 +60,10 @@ junction-back l p a b r e n =
     let cut : lengthOf a % 2 ^ 30 ≡ lengthOf a = omega (arith, short a r) in
     rw (long, cap, cut, e)
 
--- the reaches of the places are those of the steps
-pub placed-reach : {r : Ring} {l : Limits} {blocks : List Block} → Placed r l blocks → (k : ℕ) → k < length blocks → placeAt r k .reach ≡ reachAt (stepsOf l blocks) k
+-- the reaches of the places are those of the spans
+pub placed-reach : {r : Ring} {l : Limits} {blocks : List Block} → Placed r l blocks → (k : ℕ) → k < length blocks → placeAt r k .reach ≡ reachAt (spansOf l blocks) k
 unfolding numbersOf
-placed-reach {r} {l} {blocks} p k h = ap (λ (n : Numbers). n .reach) (p .numbers k h) ∙ sym (steps-reach noBlock l blocks k h)
+placed-reach {r} {l} {blocks} p k h = ap (λ (n : Numbers). n .reach) (p .numbers k h) ∙ sym (spans-reach noBlock l blocks k h)
 
 module _ (r : Ring) (sized : length (r .places) ≡ mostHeld) where
   -- what is stored at a place is read there,

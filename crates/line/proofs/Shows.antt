@@ -1,21 +1,21 @@
 -- The number told and the plan shown by a ring that holds a line: the line's number of blocks and its highest lawful profile.
--- From profile's laws of the plan. Assumes nothing.
+-- From profile's laws of the plan.
 use mathlib.Core.Path.{_≡_, refl, ap, sym, _∙_}
 use mathlib.Core.List.{List, _∷_}
 use Prim.Native.Nat.{ℕ, zero, suc, _+_, _<_}
 use native.Mathlib.Omega.{arith}
 use lib.ListN.{length, drop, drop-of-length-le}
 use lib.Seq.{drop-cons}
-use Rattle.profile.specs.Line.{Step, noStep, reachAt}
+use Rattle.profile.specs.Line.{Span, noSpan, reachAt}
 use Rattle.profile.specs.Passes.{brake, exitFrom, forward}
 use Rattle.profile.proofs.Plan.{plan-forward}
 use Rattle.profile.proofs.Highest.{plan-highest}
-use Rattle.machine.specs.Line.{stepsOf}
+use Rattle.machine.specs.Line.{spansOf}
 use Rattle.line.specs.Blocks.{Line, linePlan}
 use Rattle.line.specs.Ring.{Ring, placeAt, toldOf, speedsFrom, shownIn}
 use Rattle.line.specs.Holds.{Holds}
 use Rattle.line.specs.Demand.{PlanHighest}
-use Rattle.machine.proofs.Steps.{steps-length}
+use Rattle.machine.proofs.Spans.{spans-length}
 use Rattle.line.proofs.Places.{placed-reach}
 
 -- One number more than blocks is shown, whatever the ring holds.
@@ -25,24 +25,24 @@ shown-length r = go (toldOf r) 0 (r .committed)
   where
     go : (n k entry : ℕ) → length (speedsFrom r n k entry) ≡ n + 1
     go zero k entry = refl
-    go (suc n) k entry = omega (arith, go n (suc k) (exitFrom entry (placeAt r k .reach) (placeAt r k .limit)))
+    go (suc n) k entry = omega (arith, go n (suc k) (exitFrom entry (placeAt r k .reach) (placeAt r k .brake)))
 
--- From block k on, the numbers shown are the forward pass of the steps whose reaches and backward pass the places have.
-speeds-forward : (r : Ring) (steps : List Step)
-    → ((k : ℕ) → k < length steps → placeAt r k .reach ≡ reachAt steps k)
-    → ((k : ℕ) → k < length steps → placeAt r k .limit ≡ brake (drop (suc k) steps))
-    → (n k entry : ℕ) → n + k ≡ length steps → speedsFrom r n k entry ≡ forward entry (drop k steps)
+-- From block k on, the numbers shown are the forward pass of the spans whose reaches and backward pass the places have.
+speeds-forward : (r : Ring) (spans : List Span)
+    → ((k : ℕ) → k < length spans → placeAt r k .reach ≡ reachAt spans k)
+    → ((k : ℕ) → k < length spans → placeAt r k .brake ≡ brake (drop (suc k) spans))
+    → (n k entry : ℕ) → n + k ≡ length spans → speedsFrom r n k entry ≡ forward entry (drop k spans)
 unfolding speedsFrom forward
-speeds-forward r steps reaches limits zero k entry e = rw (drop-of-length-le steps {i = k} (omega arith))
-speeds-forward r steps reaches limits (suc n) k entry e =
-    let inside : k < length steps = omega arith in
-    rw (drop-cons steps k noStep, ← reaches k inside, ← limits k inside)
+speeds-forward r spans reaches limits zero k entry e = rw (drop-of-length-le spans {i = k} (omega arith))
+speeds-forward r spans reaches limits (suc n) k entry e =
+    let inside : k < length spans = omega arith in
+    rw (drop-cons spans k noSpan, ← reaches k inside, ← limits k inside)
     (ap (λ (s : List ℕ). entry ∷ s)
-    (speeds-forward r steps reaches limits n (suc k) (exitFrom entry (placeAt r k .reach) (placeAt r k .limit)) (omega arith)))
+    (speeds-forward r spans reaches limits n (suc k) (exitFrom entry (placeAt r k .reach) (placeAt r k .brake)) (omega arith)))
 
 module _ {r : Ring} {line : Line} (h : Holds r line) where
-  abbrev steps : List Step
-  steps = stepsOf (line .limits) (line .blocks)
+  abbrev spans : List Span
+  spans = spansOf (line .limits) (line .blocks)
 
   -- The number told is the line's number of blocks.
   pub holds-told : toldOf r ≡ length (line .blocks)
@@ -51,12 +51,12 @@ module _ {r : Ring} {line : Line} (h : Holds r line) where
   -- The plan shown is the line's,
   pub holds-shown : shownIn r ≡ linePlan line
   holds-shown =
-      let same : length steps ≡ length (line .blocks) = steps-length (line .limits) (line .blocks) in
-      speeds-forward r steps (λ k g. placed-reach (h .placed) k (omega arith)) (λ k g. h .kept (suc k) (omega arith) g)
+      let same : length spans ≡ length (line .blocks) = spans-length (line .limits) (line .blocks) in
+      speeds-forward r spans (λ k g. placed-reach (h .placed) k (omega arith)) (λ k g. h .kept (suc k) (omega arith) g)
       (toldOf r) 0 (r .committed) (omega (arith, holds-told))
-      ∙ ap (λ (c : ℕ). forward c steps) (h .committed)
-      ∙ sym (plan-forward (line .committed) steps (h .brakes))
+      ∙ ap (λ (c : ℕ). forward c spans) (h .committed)
+      ∙ sym (plan-forward (line .committed) spans (h .brakes))
 
   -- its highest lawful profile.
   pub holds-highest : PlanHighest line
-  holds-highest = plan-highest (line .committed) steps (h .brakes)
+  holds-highest = plan-highest (line .committed) spans (h .brakes)

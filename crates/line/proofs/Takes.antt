@@ -1,18 +1,18 @@
 -- A take: a ring that holds a line answers as the line does and holds the rest afterwards. From profile's laws of the plan and
--- those of steps and places. Assumes nothing.
-use mathlib.Core.Bool.{true, cond}
+-- those of spans and places.
+use mathlib.Core.Bool.{cond}
 use mathlib.Core.Path.{_≡_, refl, ap, subst, _∙_}
-use mathlib.Core.List.{List, [], _∷_}
+use mathlib.Core.List.{List, _∷_}
 use Prim.Native.Nat.{ℕ, zero, suc, _+_, _<_}
 use native.Mathlib.Numerals.{add-one}
 use native.Mathlib.Omega.{arith}
 use lib.ListN.{length, drop, getD}
-use Rattle.profile.specs.Line.{Step, capAt, reachAt, numberAt}
+use Rattle.profile.specs.Line.{Span, capAt, reachAt, numberAt}
 use Rattle.profile.specs.Passes.{brake, exitFrom, planOf, Braked}
 use Rattle.profile.proofs.Plan.{plan-first, plan-exit, take-keeps}
 use Rattle.profile.proofs.Highest.{plan-lawful, plan-highest}
 use Rattle.profile.proofs.Kept.{braked-taken}
-use Rattle.machine.specs.Line.{stepsOf}
+use Rattle.machine.specs.Line.{spansOf}
 use Rattle.machine.specs.Numbers.{numbersOf, reachFrom, peakOf, rampOf, Rampable, rampable, noRamp}
 use Rattle.machine.specs.declared.Block.{Block}
 use Rattle.machine.specs.declared.Limits.{Limits}
@@ -25,8 +25,8 @@ use Rattle.line.specs.Blocks.{Line, Call, add, take, addRefusal, takeAns
 use Rattle.line.specs.Ring.{Place, Ring, noPlace, placeAt, blockIn, numbersIn, givenIn, takenFrom, takenAnswer, takenIn, ringAnswer, ringAfter}
 use Rattle.line.specs.Holds.{keptAt, Placed, Holds, noBlock}
 use Rattle.line.specs.Demand.{GivenFrom}
-use Rattle.machine.proofs.Steps.{steps-length, steps-reach}
-use Rattle.line.proofs.Steps.{rest-cap, rest-brakes, rest-braked, rest-under, rest-entered}
+use Rattle.machine.proofs.Spans.{spans-length, spans-reach}
+use Rattle.line.proofs.Spans.{rest-cap, rest-brakes, rest-braked, rest-under, rest-entered}
 use Rattle.line.proofs.Places.{placed-reach}
 
 -- a block given out with a ramp where there is one
@@ -52,49 +52,49 @@ lineOf l committed blocks = record { limits = l; committed = committed; blocks =
 
 -- a ring that holds a line with a first block
 module _ {r : Ring} {l : Limits} {committed : ℕ} {a : Block} {rest : List Block} (h : Holds r (lineOf l committed (a ∷ rest))) where
-  abbrev steps : List Step
-  steps = stepsOf l (a ∷ rest)
+  abbrev spans : List Span
+  spans = spansOf l (a ∷ rest)
 
   abbrev exit : ℕ
-  exit = numberAt (planOf committed steps) 1
+  exit = numberAt (planOf committed spans) 1
 
   -- there is a first step
-  some : 0 < length steps
-  some = omega (arith, steps-length l (a ∷ rest))
+  some : 0 < length spans
+  some = omega (arith, spans-length l (a ∷ rest))
 
   -- the exit by the backward pass after the block
-  exit-is : exit ≡ exitFrom committed (reachAt steps 0) (brake (drop 1 steps))
-  exit-is = plan-exit committed steps (h .brakes) some
+  exit-is : exit ≡ exitFrom committed (reachAt spans 0) (brake (drop 1 spans))
+  exit-is = plan-exit committed spans (h .brakes) some
 
   -- what the ring has for the exit
-  exit-right : exitFrom (r .committed) (placeAt r 0 .reach) (placeAt r 0 .limit) ≡ exit
+  exit-right : exitFrom (r .committed) (placeAt r 0 .reach) (placeAt r 0 .brake) ≡ exit
   exit-right = omega (arith, h .committed, placed-reach (h .placed) 0 (omega arith), h .kept 1 (omega arith) some, exit-is)
 
   -- the plan's first two numbers are within the block's cap and reach,
   ramped : Rampable (numbersOf l a) committed exit
   ramped =
-      let lawful = plan-lawful committed steps (h .brakes) in
+      let lawful = plan-lawful committed spans (h .brakes) in
       numbers-rampable l a committed exit (h .passed 0 (omega arith)) (h .entered (omega arith))
       (omega (arith, exit-is, rest-under l a rest))
-      (omega (arith, lawful .falls 0 some, lawful .begins, steps-reach noBlock l (a ∷ rest) 0 (omega arith)))
-      (omega (arith, lawful .rises 0 some, lawful .begins, steps-reach noBlock l (a ∷ rest) 0 (omega arith)))
+      (omega (arith, lawful .falls 0 some, lawful .begins, spans-reach noBlock l (a ∷ rest) 0 (omega arith)))
+      (omega (arith, lawful .rises 0 some, lawful .begins, spans-reach noBlock l (a ∷ rest) 0 (omega arith)))
 
   -- so the block is given out as the line says
-  given-right : givenIn r ≡ givenOf l a (numberAt (planOf committed steps) 0) exit
+  given-right : givenIn r ≡ givenOf l a (numberAt (planOf committed spans) 0) exit
   unfolding givenIn givenOf
   given-right =
       (λ i. rampedOf (h .placed .block 0 (omega arith) i) (h .placed .numbers 0 (omega arith) i) (h .committed i) (exit-right i))
-      ∙ rw (plan-first committed steps (h .brakes), rampable-holds (numbersOf l a) committed exit ramped)
+      ∙ rw (plan-first committed spans (h .brakes), rampable-holds (numbersOf l a) committed exit ramped)
 
   -- with the speeds of the line's plan, within its cap, and a ramp that is as long as the block
-  given-from : GivenFrom (lineOf l committed (a ∷ rest)) (givenOf l a (numberAt (planOf committed steps) 0) exit)
+  given-from : GivenFrom (lineOf l committed (a ∷ rest)) (givenOf l a (numberAt (planOf committed spans) 0) exit)
   unfolding givenOf numbersOf rampOf peakOf
   given-from = record {
-    highest = plan-highest committed steps (h .brakes);
+    highest = plan-highest committed spans (h .brakes);
     entry = refl;
     exit = refl;
-    capped = (omega (arith, plan-first committed steps (h .brakes), ramped .entry-capped), ramped .exit-capped, omega arith);
-    fills = rw (plan-first committed steps (h .brakes)) (ramp-fills (numbersOf l a) committed exit ramped (reach-own l a));
+    capped = (omega (arith, plan-first committed spans (h .brakes), ramped .entry-capped), ramped .exit-capped, omega arith);
+    fills = rw (plan-first committed spans (h .brakes)) (ramp-fills (numbersOf l a) committed exit ramped (reach-own l a));
   }
 
   -- block k of the rest was block k + 1
@@ -110,20 +110,20 @@ module _ {r : Ring} {l : Limits} {committed : ℕ} {a : Block} {rest : List Bloc
     junction = junction;
   }
     where
-      junction : (k : ℕ) → 0 < k → k < length rest → placeAt (takenFrom r) k .junction ≡ capAt (stepsOf l rest) k
+      junction : (k : ℕ) → 0 < k → k < length rest → placeAt (takenFrom r) k .junction ≡ capAt (spansOf l rest) k
       junction zero p g = absurd (omega arith)
       junction (suc k) p g =
           ap (λ (p : Place). p .junction) (shifted (suc k)) ∙ h .placed .junction (suc (suc k)) (omega arith) (omega arith) ∙ rest-cap l a rest k
 
   -- with the limits of the rest's backward pass,
-  taken-kept : Braked (stepsOf l rest) (keptAt (takenFrom r)) 1
+  taken-kept : Braked (spansOf l rest) (keptAt (takenFrom r)) 1
   taken-kept =
       rest-braked l a (keptAt (takenFrom r)) rest
-      λ i p q. same i p ∙ braked-taken steps (keptAt r) 1 some (λ j s t. h .kept j (omega arith) t) i p q
+      λ i p q. same i p ∙ braked-taken spans (keptAt r) 1 some (λ j s t. h .kept j (omega arith) t) i p q
     where
       same : (i : ℕ) → 0 < i → keptAt (takenFrom r) i ≡ keptAt r (i + 1)
       same zero p = absurd (omega arith)
-      same (suc k) p = rw (add-one (suc k)) (ap (λ (p : Place). p .limit) (shifted k))
+      same (suc k) p = rw (add-one (suc k)) (ap (λ (p : Place). p .brake) (shifted k))
 
   -- so the ring holds the rest
   taken-holds : Holds (takenFrom r) (lineOf l exit rest)
@@ -138,7 +138,7 @@ module _ {r : Ring} {l : Limits} {committed : ℕ} {a : Block} {rest : List Bloc
     passed = λ k g. h .passed (suc k) (omega arith);
     placed = taken-placed;
     kept = taken-kept;
-    brakes = rest-brakes l a exit rest (take-keeps committed steps);
+    brakes = rest-brakes l a exit rest (take-keeps committed spans);
     entered = λ g. omega (arith, exit-is, rest-entered l a rest);
   }
 
@@ -149,7 +149,7 @@ unfolding ringAnswer lineAnswer ringAfter lineAfter
 holds-take {r} {line} = go (line .limits) (line .committed) (line .blocks) (r .count) refl
   where
     go : (l : Limits) (c : ℕ) (blocks : List Block) (count : ℕ) → r .count ≡ count → Holds r (lineOf l c blocks)
-        → (takenAnswer count r ≡ takeAnswer l blocks (planOf c (stepsOf l blocks))) × Holds (takenIn count r) (takeAfter l c blocks (planOf c (stepsOf l blocks)))
+        → (takenAnswer count r ≡ takeAnswer l blocks (planOf c (spansOf l blocks))) × Holds (takenIn count r) (takeAfter l c blocks (planOf c (spansOf l blocks)))
     go l c [] zero e h = (refl, h)
     go l c [] (suc n) e h = absurd (omega (arith, h .counted))
     go l c (a ∷ rest) zero e h = absurd (omega (arith, h .counted))
@@ -165,6 +165,6 @@ holds-given {r} {line} h (add b) g e = absurd (go (addRefusal (length (line .blo
     go (suc n) e = let z : _≡_ {A = ℕ} 0 1 = cc in omega arith
 holds-given {r} {line} h take g e = go (line .limits) (line .committed) (line .blocks) h e
   where
-    go : (l : Limits) (c : ℕ) (blocks : List Block) → Holds r (lineOf l c blocks) → takeAnswer l blocks (planOf c (stepsOf l blocks)) ≡ gave g → GivenFrom (lineOf l c blocks) g
+    go : (l : Limits) (c : ℕ) (blocks : List Block) → Holds r (lineOf l c blocks) → takeAnswer l blocks (planOf c (spansOf l blocks)) ≡ gave g → GivenFrom (lineOf l c blocks) g
     go l c [] h e = absurd (let z : _≡_ {A = ℕ} 0 1 = cc in omega arith)
     go l c (a ∷ rest) h e = subst (λ (x : Given). GivenFrom (lineOf l c (a ∷ rest)) x) (let s : _ ≡ g = cc in s) (given-from h)

@@ -1,9 +1,9 @@
 -- The walk back through the ring's places makes the limits right for a line with one step more, and changes nothing else.
--- From profile's laws of kept numbers and those of places. Assumes nothing.
+-- From profile's laws of kept numbers and those of places.
 use mathlib.Core.Logic.{_≢_}
 use mathlib.Core.Bool.{Bool, true, false}
 use mathlib.Core.Path.{_≡_, refl, ap, _∙_}
-use mathlib.Core.List.{List, [], _∷_, _++_}
+use mathlib.Core.List.{List, _∷_, _++_}
 use Prim.Native.Nat.{ℕ, zero, suc, _+_, _-_, _≤_, _<_}
 use native.Mathlib.Numerals.{add-one}
 use native.Mathlib.Decide.{ℕ-discrete}
@@ -11,11 +11,11 @@ use native.Mathlib.Omega.{arith}
 use borrow.Author.Tests.{eqb-true}
 use lib.Dec.{eqb}
 use lib.ListN.{length, length-set}
-use Rattle.profile.specs.Line.{Step, capAt, reachAt}
+use Rattle.profile.specs.Line.{Span, capAt, reachAt}
 use Rattle.profile.specs.Passes.{brakeFrom, Braked}
 use Rattle.profile.proofs.Kept.{Extended, extended-store, extended-stop, extended-end}
 use Rattle.line.specs.Blocks.{mostHeld}
-use Rattle.line.specs.Ring.{Place, Ring, slot, placeAt, withPlace, withLimit, brakeAt, walkBack}
+use Rattle.line.specs.Ring.{Place, Ring, slot, placeAt, withPlace, withBrake, brakeAt, walkBack}
 use Rattle.line.specs.Holds.{keptAt}
 use Rattle.line.proofs.Places.{place-same, place-other}
 
@@ -25,11 +25,11 @@ pub record Walked (old new : Ring) : Type 0 where
   pub count : new .count ≡ old .count
   pub committed : new .committed ≡ old .committed
   pub sized : length (new .places) ≡ mostHeld
-  pub same : (k : ℕ) → k < mostHeld → withLimit (placeAt new k) 0 ≡ withLimit (placeAt old k) 0
+  pub same : (k : ℕ) → k < mostHeld → withBrake (placeAt new k) 0 ≡ withBrake (placeAt old k) 0
 
--- the ring with a new limit of block k
+-- the ring with a new brake of block k
 abbrev pub limited : Ring → (k v : ℕ) → Ring
-limited r k v = withPlace r k (withLimit (placeAt r k) v)
+limited r k v = withPlace r k (withBrake (placeAt r k) v)
 
 module _ (r : Ring) (sized : length (r .places) ≡ mostHeld) where
   -- it does from itself
@@ -37,15 +37,15 @@ module _ (r : Ring) (sized : length (r .places) ≡ mostHeld) where
   walked-none = record { limits = refl; count = refl; committed = refl; sized = sized; same = λ k h. refl }
 
   module _ (k v : ℕ) (inside : k < mostHeld) where
-    -- with a new limit there are 64 places still,
+    -- with a new brake there are 64 places still,
     limited-sized : length (limited r k v .places) ≡ mostHeld
-    limited-sized = length-set (r .places) (slot r k) (withLimit (placeAt r k) v) ∙ sized
+    limited-sized = length-set (r .places) (slot r k) (withBrake (placeAt r k) v) ∙ sized
 
-    -- each the same but for its limit
-    limited-same : (j : ℕ) → j < mostHeld → withLimit (placeAt (limited r k v) j) 0 ≡ withLimit (placeAt r j) 0
+    -- each the same but for its brake
+    limited-same : (j : ℕ) → j < mostHeld → withBrake (placeAt (limited r k v) j) 0 ≡ withBrake (placeAt r j) 0
     limited-same j h = elim (ℕ-discrete j k) [
-      | yes e ↦ rw (e, place-same r sized k (withLimit (placeAt r k) v))
-      | no d ↦ rw (place-other r sized k j (withLimit (placeAt r k) v) inside h d)
+      | yes e ↦ rw (e, place-same r sized k (withBrake (placeAt r k) v))
+      | no d ↦ rw (place-other r sized k j (withBrake (placeAt r k) v) inside h d)
     ]
 
     -- and a ring that differs from that one in limits differs from the old one in limits
@@ -58,13 +58,13 @@ module _ (r : Ring) (sized : length (r .places) ≡ mostHeld) where
       same = λ j h. w .same j h ∙ limited-same j h;
     }
 
-    -- the limit stored is read at the junction where block k ends, and the others are as they were
+    -- the brake stored is read at the junction where block k ends, and the others are as they were
     kept-same : keptAt (limited r k v) (suc k) ≡ v
-    kept-same = ap (λ (p : Place). p .limit) (place-same r sized k (withLimit (placeAt r k) v))
+    kept-same = ap (λ (p : Place). p .brake) (place-same r sized k (withBrake (placeAt r k) v))
 
     kept-other : (i : ℕ) → i ≤ mostHeld → i ≢ suc k → keptAt (limited r k v) i ≡ keptAt r i
     kept-other zero h d = refl
-    kept-other (suc j) h d = ap (λ (p : Place). p .limit) (place-other r sized k j (withLimit (placeAt r k) v) inside h (omega arith))
+    kept-other (suc j) h d = ap (λ (p : Place). p .brake) (place-other r sized k j (withBrake (placeAt r k) v) inside h (omega arith))
 
 -- the walk back changes limits of places alone
 pub walk-walked : (k : ℕ) (r : Ring) → length (r .places) ≡ mostHeld → k ≤ mostHeld → Walked r (walkBack k r)
@@ -72,14 +72,14 @@ unfolding walkBack
 walk-walked zero r sized h = walked-none r sized
 walk-walked (suc k) r sized h =
     let v = brakeAt r (suc k) in
-    go (eqb (placeAt r k .limit) v)
+    go (eqb (placeAt r k .brake) v)
     (walked-more r sized k v h _ (walk-walked k (limited r k v) (limited-sized r sized k v h) (omega arith)))
   where
     go : (t : Bool) → Walked r (walkBack k (limited r k (brakeAt r (suc k)))) → Walked r (elim t [ true ↦ r | false ↦ walkBack k (limited r k (brakeAt r (suc k))) ])
     go true w = walked-none r sized
     go false w = w
 
-module _ (line : List Step) (s : Step) (room : length line < mostHeld) where
+module _ (line : List Span) (s : Span) (room : length line < mostHeld) where
   -- a ring of 64 places whose caps and reaches are those of the line with one step more
   pub record Fitting (r : Ring) : Type 0 where
     pub sized : length (r .places) ≡ mostHeld
@@ -119,9 +119,9 @@ module _ (line : List Step) (s : Step) (room : length line < mostHeld) where
   unfolding walkBack next
   walk-braked zero r f h x = extended-end line s (keptAt r) 0 (omega arith) x
   walk-braked (suc k) r f h x =
-      go (eqb (placeAt r k .limit) (brakeAt r (suc k))) refl (walk-braked k (next r f k h) (fitting-next r f k h) (omega arith) (extended-next r f k h x))
+      go (eqb (placeAt r k .brake) (brakeAt r (suc k))) refl (walk-braked k (next r f k h) (fitting-next r f k h) (omega arith) (extended-next r f k h x))
     where
-      go : (t : Bool) → eqb (placeAt r k .limit) (brakeAt r (suc k)) ≡ t → Braked (line ++ (s ∷ [])) (keptAt (walkBack k (next r f k h))) 1
+      go : (t : Bool) → eqb (placeAt r k .brake) (brakeAt r (suc k)) ≡ t → Braked (line ++ (s ∷ [])) (keptAt (walkBack k (next r f k h))) 1
           → Braked (line ++ (s ∷ [])) (keptAt (elim t [ true ↦ r | false ↦ walkBack k (next r f k h) ])) 1
       go true e b = extended-stop line s (keptAt r) (suc k) h x (eqb-true _ _ e ∙ brake-right r f k h)
       go false e b = b

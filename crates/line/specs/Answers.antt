@@ -1,6 +1,6 @@
 -- What is answered, as document 01's numbers and values.
 use Prim.Native.Nat.{ℕ, zero, suc}
-use Rattle.machine.specs.Checks.{refusalNumber}
+use Rattle.display.specs.Display.{refusalNumber}
 use Rattle.machine.specs.Numbers.{numbersOf, rampOf}
 use Rattle.machine.specs.declared.Block.{Block}
 use Rattle.machine.specs.declared.Limits.{Limits}

@@ -1,13 +1,14 @@
 -- Document 01, "The line of blocks, from the calls alone". Nothing here names what a planner keeps.
-use mathlib.Core.List.{List, [], _∷_, _++_}
+use mathlib.Core.List.{List, _∷_, _++_}
 use Prim.Native.Nat.{ℕ, zero, suc}
 use lib.Dec.{leb}
 use lib.ListN.{length}
 use Rattle.profile.specs.Line.{numberAt}
 use Rattle.profile.specs.Passes.{planOf}
-use Rattle.machine.specs.Answers.{firstOf}
-use Rattle.machine.specs.Checks.{blockRefusal, pick}
-use Rattle.machine.specs.Line.{stepsOf}
+use Rattle.display.specs.Display.{_then_}
+use mathlib.Core.Bool.{cond}
+use Rattle.machine.specs.Checks.{blockRefusal}
+use Rattle.machine.specs.Line.{spansOf}
 use Rattle.machine.specs.declared.Block.{Block}
 use Rattle.machine.specs.declared.Limits.{Limits}
 use Rattle.line.specs.Answers.{Answer, gave, refused, answerBy, givenOf}
@@ -33,11 +34,11 @@ pub data Call : Type 0 where
 
 -- an add: its block is checked first (2 to 6), then the room (7)
 abbrev pub addRefusal : (held : ℕ) → Block → ℕ
-addRefusal held b = firstOf (blockRefusal b) (pick (leb mostHeld held) 7 0)
+addRefusal held b = blockRefusal b then cond (leb mostHeld held) 7 0
 
 -- the plan of the line: its highest lawful profile, which `Demand: PlanHighest` says that it is; zeros where there is none
 abbrev pub linePlan : Line → List ℕ
-linePlan line = planOf (line .committed) (stepsOf (line .limits) (line .blocks))
+linePlan line = planOf (line .committed) (spansOf (line .limits) (line .blocks))
 
 -- what line an add that is refused by a number, or by none, leaves
 abbrev pub addAfter : ℕ → Line → Block → Line

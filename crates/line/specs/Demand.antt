@@ -4,7 +4,7 @@ use mathlib.Core.Path.{_≡_}
 use Prim.Native.Nat.{ℕ, _+_, _≤_}
 use lib.ListN.{length, take, getD}
 use Rattle.profile.specs.Line.{numberAt, Highest}
-use Rattle.machine.specs.Line.{stepsOf}
+use Rattle.machine.specs.Line.{spansOf}
 use Rattle.machine.specs.Numbers.{blockCap}
 use Rattle.machine.specs.declared.Limits.{Limits}
 use Rattle.line.specs.Answers.{Answer, accepted, gave, refused}
@@ -13,7 +13,7 @@ use Rattle.line.specs.declared.Given.{Given}
 
 -- a lawful profile of the line exists, its plan is one, and no lawful profile is above the plan anywhere
 abbrev pub PlanHighest : Line → Type 0
-PlanHighest line = Highest (line .committed) (stepsOf (line .limits) (line .blocks)) (linePlan line)
+PlanHighest line = Highest (line .committed) (spansOf (line .limits) (line .blocks)) (linePlan line)
 
 -- a block given out of a line: entry and exit are the first two numbers of its highest lawful profile; no squared speed of the block is
 -- above its cap; and the ramp is as long as the block

@@ -7,7 +7,7 @@ use Rattle.profile.specs.Line.{capAt}
 use Rattle.profile.specs.Passes.{CanBrake, Braked}
 use Rattle.machine.specs.Checks.{limitsRefusal, blockRefusal}
 use Rattle.machine.specs.Numbers.{numbersOf, blockCap}
-use Rattle.machine.specs.Line.{stepsOf}
+use Rattle.machine.specs.Line.{spansOf}
 use Rattle.machine.specs.declared.Block.{Block}
 use Rattle.machine.specs.declared.Limits.{Limits}
 use Rattle.line.specs.Blocks.{mostHeld, Line}
@@ -23,13 +23,13 @@ blockAt blocks k = getD blocks k noBlock
 -- the squared speeds that the places keep, by junctions: that of a place is at the junction where its block ends
 abbrev pub keptAt : Ring → ℕ → ℕ
 keptAt r zero = 0
-keptAt r (suc k) = placeAt r k .limit
+keptAt r (suc k) = placeAt r k .brake
 
 -- the ring's places from the first on are the blocks with their numbers and junction caps
 pub record Placed (r : Ring) (l : Limits) (blocks : List Block) : Type 0 where
   pub block : (k : ℕ) → k < length blocks → blockIn (placeAt r k) ≡ blockAt blocks k
   pub numbers : (k : ℕ) → k < length blocks → numbersIn (placeAt r k) ≡ numbersOf l (blockAt blocks k)
-  pub junction : (k : ℕ) → 0 < k → k < length blocks → placeAt r k .junction ≡ capAt (stepsOf l blocks) k
+  pub junction : (k : ℕ) → 0 < k → k < length blocks → placeAt r k .junction ≡ capAt (spansOf l blocks) k
 
 -- the ring holds the line: its places are the line's blocks, the squared speeds that they keep those of the line's backward pass; the line can
 -- brake from the committed squared speed, which is within the first block's cap
@@ -42,6 +42,6 @@ pub record Holds (r : Ring) (line : Line) : Type 0 where
   pub counted : r .count ≡ length (line .blocks)
   pub passed : (k : ℕ) → k < length (line .blocks) → blockRefusal (blockAt (line .blocks) k) ≡ 0
   pub placed : Placed r (line .limits) (line .blocks)
-  pub kept : Braked (stepsOf (line .limits) (line .blocks)) (keptAt r) 1
-  pub brakes : CanBrake (line .committed) (stepsOf (line .limits) (line .blocks))
+  pub kept : Braked (spansOf (line .limits) (line .blocks)) (keptAt r) 1
+  pub brakes : CanBrake (line .committed) (spansOf (line .limits) (line .blocks))
   pub entered : 0 < length (line .blocks) → line .committed ≤ blockCap (line .limits) (blockAt (line .blocks) 0)

@@ -1,13 +1,12 @@
 -- The ring of 64 places that holds a line, number by number as it stands in memory, and what a call answers and leaves there.
 -- Every content of the memory has an answer; what is read is cut to the size that the arithmetic takes.
-use mathlib.Core.List.{List, [], _∷_}
+use mathlib.Core.List.{List, _∷_}
 use mathlib.Core.Bool.{true, false, cond}
 use Prim.Native.Nat.{ℕ, zero, suc, _+_, _-_, _*_, _%_, _^_, min}
 use lib.Dec.{eqb}
 use lib.ListN.{getD, set}
 use Rattle.fields.specs.Signed.{signedOf, bitsOf}
 use Rattle.profile.specs.Passes.{brakeFrom, exitFrom}
-use Rattle.machine.specs.Checks.{pick}
 use Rattle.machine.specs.Numbers.{numbersOf, rampOf, rampable, noRamp, turnFrom, cornerFrom, underCorner}
 use Rattle.machine.specs.declared.Axes.{Axes}
 use Rattle.machine.specs.declared.Limits.{Limits}
@@ -31,7 +30,7 @@ pub record Place : Type 0 where
   pub reach : ℕ
   pub cap : ℕ
   pub junction : ℕ
-  pub limit : ℕ
+  pub brake : ℕ
 
 -- the memory of a planner
 pub record Ring : Type 0 where
@@ -43,7 +42,7 @@ pub record Ring : Type 0 where
   pub places : List Place
 
 abbrev pub noPlace : Place
-noPlace = record { x = 0; y = 0; z = 0; feed = 0; radius = 0; mark = 0; length = 0; accel = 0; reach = 0; cap = 0; junction = 0; limit = 0 }
+noPlace = record { x = 0; y = 0; z = 0; feed = 0; radius = 0; mark = 0; length = 0; accel = 0; reach = 0; cap = 0; junction = 0; brake = 0 }
 
 -- the limits as they are used
 abbrev pub cutAxes : Axes → Axes
@@ -90,7 +89,7 @@ placeOf b n junction =
       reach = n .reach;
       cap = n .cap;
       junction = junction;
-      limit = 0;
+      brake = 0;
     }
 
 -- the number told
@@ -105,10 +104,10 @@ junctionAfter l p b n =
 
 -- the same for the block after all held ones; the first block of a line begins at junction 0, which has none
 abbrev pub newJunction : Ring → Block → ℕ
-newJunction r b = pick (eqb (r .count) 0) 0 (junctionAfter (cutLimits (r .limits)) (placeAt r (r .count - 1)) b (numbersOf (cutLimits (r .limits)) b))
+newJunction r b = cond (eqb (r .count) 0) 0 (junctionAfter (cutLimits (r .limits)) (placeAt r (r .count - 1)) b (numbersOf (cutLimits (r .limits)) b))
 
-abbrev pub withLimit : Place → ℕ → Place
-withLimit p v =
+abbrev pub withBrake : Place → ℕ → Place
+withBrake p v =
     record {
       x = p .x;
       y = p .y;
@@ -121,17 +120,17 @@ withLimit p v =
       reach = p .reach;
       cap = p .cap;
       junction = p .junction;
-      limit = v;
+      brake = v;
     }
 
 -- the greatest squared speed where block k begins from which it and the blocks after it can brake
 abbrev pub brakeAt : Ring → ℕ → ℕ
-brakeAt r k = brakeFrom (placeAt r k .junction) (placeAt r k .reach) (placeAt r k .limit)
+brakeAt r k = brakeFrom (placeAt r k .junction) (placeAt r k .reach) (placeAt r k .brake)
 
--- the walk back from block k: each block before it gets its limit anew, until one has it already
+-- the walk back from block k: each block before it gets its brake anew, until one has it already
 unfoldable pub walkBack : (k : ℕ) → Ring → Ring
 walkBack zero r = r
-walkBack (suc k) r = elim (eqb (placeAt r k .limit) (brakeAt r (suc k))) [ true ↦ r | false ↦ walkBack k (withPlace r k (withLimit (placeAt r k) (brakeAt r (suc k)))) ]
+walkBack (suc k) r = elim (eqb (placeAt r k .brake) (brakeAt r (suc k))) [ true ↦ r | false ↦ walkBack k (withPlace r k (withBrake (placeAt r k) (brakeAt r (suc k)))) ]
 
 -- a block put last
 unfoldable pub putLast : Ring → Block → Ring
@@ -148,7 +147,7 @@ addedIn (suc n) r b = r
 unfoldable pub givenIn : Ring → Given
 givenIn r =
     let p = placeAt r 0 in
-    let exit = exitFrom (r .committed) (p .reach) (p .limit) in
+    let exit = exitFrom (r .committed) (p .reach) (p .brake) in
     record {
       block = blockIn p;
       length = p .length;
@@ -165,7 +164,7 @@ takenFrom r =
       limits = r .limits;
       first = (r .first + 1) % mostHeld;
       count = r .count - 1;
-      committed = exitFrom (r .committed) (placeAt r 0 .reach) (placeAt r 0 .limit);
+      committed = exitFrom (r .committed) (placeAt r 0 .reach) (placeAt r 0 .brake);
       places = r .places;
     }
 
@@ -189,14 +188,14 @@ ringAfter r take = takenIn (r .count) r
 -- the plan shown, from block k of those held and its entry, for n blocks more
 unfoldable pub speedsFrom : Ring → (n k entry : ℕ) → List ℕ
 speedsFrom r zero k entry = entry ∷ []
-speedsFrom r (suc n) k entry = entry ∷ speedsFrom r n (suc k) (exitFrom entry (placeAt r k .reach) (placeAt r k .limit))
+speedsFrom r (suc n) k entry = entry ∷ speedsFrom r n (suc k) (exitFrom entry (placeAt r k .reach) (placeAt r k .brake))
 
 abbrev pub shownIn : Ring → List ℕ
 shownIn r = speedsFrom r (toldOf r) 0 (r .committed)
 
 -- refusal 11, or 0
 abbrev pub showRefusal : Ring → (listLength : ℕ) → ℕ
-showRefusal r n = pick (eqb n (toldOf r + 1)) 0 11
+showRefusal r n = cond (eqb n (toldOf r + 1)) 0 11
 
 -- after a list of calls: the answers and the ring
 unfoldable pub ringAnswers : Ring → List Call → List Answer

@@ -1,7 +1,7 @@
 // What a planner answers, and (in specs/) document 01's line of blocks and the ring of places that holds one.
+use display::Refusal;
 use machine::Block;
 use machine::Ramp;
-use machine::Refusal;
 
 // A block given out.
 pub struct Given {

@@ -1,4 +1,8 @@
-pub mod Decimal
-pub mod Store
+-- The laws of a tape's listing.
+pub mod Given
+pub mod Plans
 pub mod Lines
-pub mod Cases
+pub mod Answers
+pub mod Lengths
+pub mod Parts
+pub mod Whole

@@ -1,221 +1,180 @@
-// The text of a listing and of a replay: numbers in decimal, words, and lines of them, stored in bytes that a caller lends.
-// Nothing here knows what a number means. A text is stored whole, or not at all where it has too little room.
-
+// The listing of a whole tape as document 01 words it, for every bytes: a header and one line for each block, or the one
+// line of the refusal. A tape is planned once, and its text comes in parts, each stored in bytes that the caller lends.
 ghost use mathlib.Core.Path.{_≡_};
-ghost use Prim.Native.Nat.{_+_, _≤_};
-ghost use lib.Dec.{leb};
+ghost use Prim.Native.Nat.{_+_, _-_, _/_, _≤_, min};
 ghost use lib.ListN.{length};
-ghost use Rattle.listing.specs.Text.{decimal, Digits, spaced, line, row, header, refusedWords, refusedAt, refused, added, held, plan};
-ghost use Rattle.listing.specs.Store.{Stored, Answered, placeBehind};
+ghost use Rattle.machine.specs.Checks.{blockRefusal};
+ghost use Rattle.machine.specs.Numbers.{LimitsBelow};
+ghost use Rattle.text.specs.Text.{refusedAt};
+ghost use Rattle.text.specs.Store.{Stored};
+ghost use Rattle.listing.specs.Given.{WroteLine, mostGiven};
+ghost use Rattle.tape.specs.Tape.{limitsBytes, recordBytes};
+ghost use Rattle.display.specs.Display.{refusalNumber};
+ghost use Rattle.tape.specs.Answers.{readRecord};
+ghost use Rattle.listing.specs.Parts.{ListingFrom, betweenOf, headIn, headerSize, mostBlocks, mostJunctions, onlyFirst, partBlocks, partOf, partSize, plannedPart, recordLine, recordLines};
+use crate::given::store_given;
+use display::Refusal;
+use display::refusal_number;
+use line::Given;
+use machine::Block;
+use machine::Limits;
+use machine::measure::numbers;
+use ramps::ramp_between;
+use tape::LIMITS_BYTES;
+use tape::LimitsRead;
+use tape::RECORD_BYTES;
+use tape::RecordRead;
+use tape::limits::read_limits;
+use tape::records::read_record;
+use tapeplan::MOST_BLOCKS;
+use tapeplan::TapePlanned;
+use tapeplan::whole::plan_tape;
+use text::behind;
+use text::put_header;
+use text::put_refused_at;
 
-// The place behind a text that was stored, or that there was too little room.
-pub enum Put {
-    At(usize),
-    NoRoom,
+// Lines of a part at most, and parts of a listing at most.
+const BLOCKS: usize = 128;
+
+pub const PARTS: usize = MOST_BLOCKS / BLOCKS;
+// Bytes that hold any part: 49 of the header, and 190 for each of 128 lines.
+pub const TEXT: usize = 24_369;
+// Junctions of the longest tape.
+const JUNCTIONS: usize = MOST_BLOCKS + 1;
+
+// The smaller of two counts.
+fn fewer(a: usize, b: usize) -> usize
+    ensures { λ r. ⌜ r ≡ min a b ⌝ }
+{
+    if a <= b { a } else { b }
 }
 
-// The place behind a text that was stored from place `at` on, or `at` where it had too little room.
-pub fn behind(answer: Put, at: usize) -> usize
-    ensures { λ r. ⌜ r ≡ placeBehind at answer ⌝ }
+// How many records follow the limits in so many bytes.
+fn records_in(bytes: usize) -> usize
+    ensures { λ r. ⌜ r ≡ (bytes - limitsBytes) / recordBytes ⌝ }
 {
-    match answer {
-        Put::At(end) => end,
-        Put::NoRoom => at,
+    if bytes < LIMITS_BYTES {
+        return 0;
+    }
+    (bytes - LIMITS_BYTES) / RECORD_BYTES
+}
+
+// A block with the squared speeds at its ends, (µm/s)²; a ramp of zeros between speeds that no plan has.
+fn given_between(l: Limits, b: Block, entry: u64, exit: u64) -> Given
+    requires { ⌜ LimitsBelow l × (blockRefusal b ≡ 0) ⌝ }
+    ensures { λ r. ⌜ r ≡ betweenOf l b entry exit ⌝ }
+{
+    let n = numbers(l, b);
+    Given {
+        block: b,
+        length: n.length,
+        accel: n.accel,
+        entry: entry,
+        exit: exit,
+        ramp: ramp_between(n, entry, exit),
     }
 }
 
-// How many digits n has.
-fn digits(n: u64) -> usize
-    ensures { λ r. ⌜ Digits n r ⌝ }
+// Stores the line of the record that the bytes begin with; none where it is refused.
+fn put_record(s: &[u8], l: Limits, entry: u64, exit: u64, text: &mut [u8], at: usize) -> usize
+    requires { ⌜ LimitsBelow l × (at + mostGiven ≤ length (now text)) ⌝ }
+    ensures { λ r. ⌜ WroteLine (recordLine l (readRecord (now (s .entry))) entry exit) (now (text .entry)) at r (now (text .exit)) ⌝ }
 {
-    let mut count: usize = 1;
-    let mut rest = n;
-    while 10 <= rest {
-        rest = rest / 10;
-        count += 1;
+    match read_record(s) {
+        RecordRead::Refused(_) => at,
+        RecordRead::Read(b) => store_given(text, at, given_between(l, b, entry, exit)),
     }
-    count
 }
 
-// Stores n in decimal, the last digit first.
-fn store_number(out: &mut [u8], at: usize, n: u64) -> usize
-    requires { ⌜ at + length (decimal n) ≤ length (now out) ⌝ }
-    ensures { λ r. ⌜ Stored (now (out .entry)) at (decimal n) r (now (out .exit)) ⌝ }
+// Stores the lines of 128 records from record `first` on, as far as the bytes have them.
+fn put_lines(s: &[u8], l: Limits, plan: &[u64], first: usize, text: &mut [u8], at: usize) -> usize
+    requires { ⌜ LimitsBelow l × (length (now plan) ≡ mostJunctions) × (first + partBlocks ≤ mostBlocks) × (at ≤ headerSize) × (length (now text) ≡ partSize) ⌝ }
+    ensures { λ r. ⌜ Stored (now (text .entry)) at (recordLines l (now (s .entry)) (now (plan .entry)) first partBlocks) r (now (text .exit)) ⌝ }
 {
-    let end = at + digits(n);
-    let mut last = end - 1;
-    let mut rest = n;
-    while 10 <= rest {
-        out[last] = (48 + rest % 10) as u8;
-        last -= 1;
-        rest = rest / 10;
-    }
-    out[last] = (48 + rest) as u8;
-    end
-}
-
-// Stores the bytes of a text.
-fn store_bytes(out: &mut [u8], at: usize, text: &[u8]) -> usize
-    requires { ⌜ at + length (now text) ≤ length (now out) ⌝ }
-    ensures { λ r. ⌜ Stored (now (out .entry)) at (now (text .entry)) r (now (out .exit)) ⌝ }
-{
-    let mut i: usize = 0;
-    while i < text.len() {
-        out[at + i] = text[i];
-        i += 1;
-    }
-    at + i
-}
-
-// Stores numbers in decimal, each after one space.
-fn store_spaced(out: &mut [u8], at: usize, numbers: &[u64]) -> usize
-    requires { ⌜ at + length (spaced (now numbers)) ≤ length (now out) ⌝ }
-    ensures { λ r. ⌜ Stored (now (out .entry)) at (spaced (now (numbers .entry))) r (now (out .exit)) ⌝ }
-{
+    let to = fewer(first + BLOCKS, records_in(s.len()));
     let mut end = at;
-    let mut i: usize = 0;
-    while i < numbers.len() {
-        out[end] = b' ';
-        end = store_number(out, end + 1, numbers[i]);
-        i += 1;
+    let mut k = first;
+    while k < to {
+        let from = LIMITS_BYTES + RECORD_BYTES * k;
+        end = put_record(&s[from..], l, plan[k], plan[k + 1], text, end);
+        k += 1;
     }
     end
 }
 
-// Whether numbers, each after one space, have room in `room` bytes.
-fn spaced_fits(numbers: &[u64], room: usize) -> bool
-    ensures { λ r. ⌜ r ≡ leb (length (spaced (now (numbers .entry)))) room ⌝ }
+// Stores the header in part 0.
+fn put_head(p: usize, text: &mut [u8]) -> usize
+    requires { ⌜ length (now text) ≡ partSize ⌝ }
+    ensures { λ r. ⌜ Stored (now (text .entry)) 0 (headIn p) r (now (text .exit)) ⌝ }
 {
-    let mut left = room;
-    let mut i: usize = 0;
-    while i < numbers.len() {
-        let count = digits(numbers[i]);
-        if left <= count {
-            return false;
-        }
-        left -= count + 1;
-        i += 1;
+    if 0 < p {
+        return 0;
     }
-    true
+    behind(put_header(text, 0), 0)
 }
 
-// Whether words, the numbers each after one space, and a line feed have room in `room` bytes.
-fn line_fits(words: &[u8], numbers: &[u64], room: usize) -> bool
-    ensures { λ r. ⌜ r ≡ leb (length (line (now (words .entry)) (now (numbers .entry)))) room ⌝ }
+// Stores the line of a refusal in part 0.
+fn put_refusal(p: usize, why: Refusal, place: usize, text: &mut [u8]) -> usize
+    requires { ⌜ length (now text) ≡ partSize ⌝ }
+    ensures { λ r. ⌜ Stored (now (text .entry)) 0 (onlyFirst p (refusedAt (refusalNumber why) place)) r (now (text .exit)) ⌝ }
 {
-    if room <= words.len() {
-        return false;
+    if 0 < p {
+        return 0;
     }
-    spaced_fits(numbers, room - words.len() - 1)
-}
-
-// Stores words, the numbers each after one space, and a line feed.
-fn store_line(out: &mut [u8], at: usize, words: &[u8], numbers: &[u64]) -> usize
-    requires { ⌜ at + length (line (now words) (now numbers)) ≤ length (now out) ⌝ }
-    ensures { λ r. ⌜ Stored (now (out .entry)) at (line (now (words .entry)) (now (numbers .entry))) r (now (out .exit)) ⌝ }
-{
-    let behind = store_bytes(out, at, words);
-    let end = store_spaced(out, behind, numbers);
-    out[end] = b'\n';
-    end + 1
-}
-
-// Stores words, the numbers each after one space, and a line feed.
-pub fn put_line(out: &mut [u8], at: usize, words: &[u8], numbers: &[u64]) -> Put
-    ensures { λ r. ⌜ Answered (now (out .entry)) at (line (now (words .entry)) (now (numbers .entry))) r (now (out .exit)) ⌝ }
-{
-    if out.len() < at {
-        return Put::NoRoom;
-    }
-    if line_fits(words, numbers, out.len() - at) {
-        Put::At(store_line(out, at, words, numbers))
-    } else {
-        Put::NoRoom
-    }
-}
-
-// Stores the bytes of a text.
-pub fn put_bytes(out: &mut [u8], at: usize, text: &[u8]) -> Put
-    ensures { λ r. ⌜ Answered (now (out .entry)) at (now (text .entry)) r (now (out .exit)) ⌝ }
-{
-    if out.len() < at {
-        return Put::NoRoom;
-    }
-    if out.len() - at < text.len() {
-        return Put::NoRoom;
-    }
-    Put::At(store_bytes(out, at, text))
-}
-
-// Stores the line `mark length accel entry peak exit up cruise down`.
-pub fn put_header(out: &mut [u8], at: usize) -> Put
-    ensures { λ r. ⌜ Answered (now (out .entry)) at header r (now (out .exit)) ⌝ }
-{
-    put_bytes(
-        out,
-        at,
-        b"mark length accel entry peak exit up cruise down\n",
+    behind(
+        put_refused_at(text, 0, refusal_number(why), place as u64),
+        0,
     )
 }
 
-// Stores the line `added`.
-pub fn put_added(out: &mut [u8], at: usize) -> Put
-    ensures { λ r. ⌜ Answered (now (out .entry)) at added r (now (out .exit)) ⌝ }
+// Stores a part of a tape that was planned.
+fn put_part(s: &[u8], plan: &[u64], p: usize, text: &mut [u8]) -> usize
+    requires { ⌜ (length (now plan) ≡ mostJunctions) × (length (now text) ≡ partSize) ⌝ }
+    ensures { λ r. ⌜ Stored (now (text .entry)) 0 (plannedPart (now (s .entry)) (now (plan .entry)) p) r (now (text .exit)) ⌝ }
 {
-    put_bytes(out, at, b"added\n")
-}
-
-// Stores the line `refused`, the number.
-pub fn put_refused(out: &mut [u8], at: usize, number: u64) -> Put
-    ensures { λ r. ⌜ Answered (now (out .entry)) at (refused number) r (now (out .exit)) ⌝ }
-{
-    let numbers = [number];
-    put_line(out, at, b"refused", &numbers)
-}
-
-// Stores the line `held`, the number.
-pub fn put_held(out: &mut [u8], at: usize, number: u64) -> Put
-    ensures { λ r. ⌜ Answered (now (out .entry)) at (held number) r (now (out .exit)) ⌝ }
-{
-    let numbers = [number];
-    put_line(out, at, b"held", &numbers)
-}
-
-// Stores the line `plan`, the numbers.
-pub fn put_plan(out: &mut [u8], at: usize, numbers: &[u64]) -> Put
-    ensures { λ r. ⌜ Answered (now (out .entry)) at (plan (now (numbers .entry))) r (now (out .exit)) ⌝ }
-{
-    put_line(out, at, b"plan", numbers)
-}
-
-// Stores the numbers parted by one space, and a line feed.
-pub fn put_row(out: &mut [u8], at: usize, numbers: &[u64]) -> Put
-    ensures { λ r. ⌜ Answered (now (out .entry)) at (row (now (numbers .entry))) r (now (out .exit)) ⌝ }
-{
-    if numbers.len() == 0 {
-        return put_bytes(out, at, b"\n");
+    if PARTS <= p {
+        return 0;
     }
-    let mut first = [0u8; 20];
-    let end = store_number(&mut first, 0, numbers[0]);
-    put_line(out, at, &first[..end], &numbers[1..])
+    match read_limits(s) {
+        LimitsRead::Refused(_) => 0,
+        LimitsRead::Read(l) => {
+            let at = put_head(p, text);
+            put_lines(s, l, plan, BLOCKS * p, text, at)
+        }
+    }
 }
 
-// Stores `refused`, the number, `at`: at most 31 bytes.
-fn store_refused(out: &mut [u8], number: u64) -> usize
-    requires { ⌜ length (now out) ≡ 31 ⌝ }
-    ensures { λ r. ⌜ Stored (now (out .entry)) 0 (refusedWords number) r (now (out .exit)) ⌝ }
-{
-    let before = store_bytes(out, 0, b"refused ");
-    let behind = store_number(out, before, number);
-    store_bytes(out, behind, b" at")
+// What a tape's listing is made from, besides its bytes. Only `of` makes one, so every speed in it is a plan's.
+pub struct Listing {
+    // the answer of planning the tape
+    answer: TapePlanned,
+    // its squared speed at each junction, (µm/s)², and zeros behind them
+    plan: [u64; JUNCTIONS],
 }
 
-// Stores the line `refused`, the number, `at`, the place.
-pub fn put_refused_at(out: &mut [u8], at: usize, number: u64, place: u64) -> Put
-    ensures { λ r. ⌜ Answered (now (out .entry)) at (refusedAt number place) r (now (out .exit)) ⌝ }
-{
-    let mut words = [0u8; 31];
-    let end = store_refused(&mut words, number);
-    let places = [place];
-    put_line(out, at, &words[..end], &places)
+impl Listing {
+    // Plans a tape.
+    pub fn of(s: &[u8]) -> Listing
+        ensures { λ r. ⌜ ListingFrom (now (s .entry)) r ⌝ }
+    {
+        let mut plan = [0u64; JUNCTIONS];
+        let junctions = fewer(records_in(s.len()), MOST_BLOCKS) + 1;
+        let answer = plan_tape(s, &mut plan[..junctions]);
+        Listing {
+            answer: answer,
+            plan: plan,
+        }
+    }
+
+    // Stores part p, counted from 0, of the listing of the tape that this was made from at the beginning of the lent text,
+    // whose other bytes stay as they are. Returns how many bytes it has: 0 behind the last part, and then of every later one.
+    pub fn part(self, s: &[u8], p: usize, text: &mut [u8; TEXT]) -> usize
+        ensures { λ r. ⌜ Stored (now (text .entry)) 0 (partOf self (now (s .entry)) p) r (now (text .exit)) ⌝ }
+    {
+        let answer = self.answer;
+        match answer {
+            TapePlanned::Refused(why, place) => put_refusal(p, why, place, text),
+            TapePlanned::Planned => put_part(s, &self.plan, p, text),
+        }
+    }
 }

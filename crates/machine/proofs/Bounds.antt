@@ -1,16 +1,17 @@
--- How large a block's numbers are. From the ranges that the checks allow. Assumes nothing.
-use mathlib.Core.Path.{_≡_, refl}
-use mathlib.Core.Bool.{Bool, true, false, _&&_}
+-- How large a block's numbers are. From the ranges that the checks allow.
+use mathlib.Core.Path.{_≡_}
+use mathlib.Core.Bool.{true, false, _&&_}
 use Prim.Native.Nat.{ℕ, _+_, _-_, _*_, _^_, _≤_, _<_}
 use native.Mathlib.Nat.{mul-le-mul}
 use native.Mathlib.Omega.{arith}
 use borrow.Author.Tests.{leb-true, ltb-false, eqb-false, not-false}
 use lib.Dec.{eqb, lit<}
+use Rattle.display.proofs.Answers.{next-check, picked}
 use Rattle.arith.proofs.RootLaws.{root-is}
 use Rattle.arith.proofs.Squares.{square-less}
 use Rattle.machine.proofs.Tests.{both}
 use Rattle.machine.specs.Ranges.{mostAccel, mostSpeed, mostJump, mostChord, leastTick, mostTick, mostMove, mostFeed, mostRadius, mostMark}
-use Rattle.machine.specs.Checks.{pick, within, axesWithin, limitsWithin, limitsRefusal, movesOf, greatestMove, blockRefusal}
+use Rattle.machine.specs.Checks.{within, axesWithin, limitsWithin, limitsRefusal, movesOf, greatestMove, blockRefusal}
 use Rattle.machine.specs.Numbers.{AxesBelow, LimitsBelow, unit, lengthFrom}
 use Rattle.machine.specs.declared.Axes.{Axes}
 use Rattle.machine.specs.declared.Limits.{Limits}
@@ -25,22 +26,17 @@ pub record InRange (b : Block) : Type 0 where
   pub radius-below : b .radius ≤ mostRadius
   pub mark-below : b .mark ≤ mostMark
 
--- a choice of a number above 0 or something else that comes to 0 was for the other
-not-picked : (t : Bool) (n m : ℕ) → 0 < n → pick t n m ≡ 0 → (t ≡ false) × (m ≡ 0)
-not-picked true n m p e = absurd (omega arith)
-not-picked false n m p e = (refl, e)
-
 above : (n : ℕ) → eqb n 0 ≡ false → 0 < n
 above n e = omega (arith, eqb-false n 0 e)
 
 pub in-range : (b : Block) → blockRefusal b ≡ 0 → InRange b
 unfolding blockRefusal
 in-range b e =
-    let still = not-picked _ 2 _ (lit< tt) e in
-    let long = not-picked _ 3 _ (lit< tt) (still .1) in
-    let fed = not-picked _ 4 _ (lit< tt) (long .1) in
-    let wide = not-picked _ 5 _ (lit< tt) (fed .1) in
-    let marked = not-picked _ 6 _ (lit< tt) (wide .1) in
+    let still = next-check _ (lit< tt) e in
+    let long = next-check _ (lit< tt) (still .1) in
+    let fed = next-check _ (lit< tt) (long .1) in
+    let wide = next-check _ (lit< tt) (fed .1) in
+    let marked = next-check _ (lit< tt) (wide .1) in
     let feeds = both _ _ (not-false _ (fed .0)) in
     record {
       moves = above (greatestMove b) (still .0);
@@ -98,14 +94,10 @@ axes-in high a e =
     let g = both (within 1 high (a .x)) (within 1 high (a .y)) (h .0) in
     record { x-in = value-in _ _ _ (g .0); y-in = value-in _ _ _ (g .1); z-in = value-in _ _ _ (h .1) }
 
-passed-one : (t : Bool) → pick t 0 1 ≡ 0 → t ≡ true
-passed-one true e = refl
-passed-one false e = absurd (omega arith)
-
 pub limits-in : (l : Limits) → limitsRefusal l ≡ 0 → LimitsIn l
 unfolding limitsRefusal limitsWithin
 limits-in l e =
-    let all = both _ _ (passed-one _ e) in
+    let all = both _ _ (picked _ (lit< tt) e) in
     let axes = both _ _ (all .0) in
     let rest = both _ _ (all .1) in
     let first = both _ _ (rest .0) in

@@ -1,7 +1,7 @@
 -- The chord rule's cap, the block cap, the corner cap and the junction cap are the largest numbers of document 01. From the laws
--- of division and of the capped quotient. Assumes nothing.
+-- of division and of the capped quotient.
 use mathlib.Core.Path.{_≡_, refl, sym, ap}
-use mathlib.Core.Bool.{Bool, true, false}
+use mathlib.Core.Bool.{Bool, true, false, cond}
 use Prim.Native.Nat.{ℕ, zero, suc, _*_, _/_, _≤_, _<_, min}
 use native.Mathlib.Nat.{le-trans, le-refl, le-min, min-le-left, min-le-right, mul-pos, mul-le-mul, le-div-iff-mul-le}
 use native.Mathlib.Omega.{arith}
@@ -14,7 +14,7 @@ use Rattle.arith.specs.Quotient.{cappedQuotient}
 use Rattle.arith.proofs.QuotientLaws.{quotient-is, quotient-positive}
 use Rattle.arith.proofs.SignedLaws.{gap-positive}
 use Rattle.machine.specs.Ranges.{mostFeed}
-use Rattle.machine.specs.Checks.{pick, blockRefusal}
+use Rattle.machine.specs.Checks.{blockRefusal}
 use Rattle.machine.specs.Numbers.{CornerCap, none, upTo, unit, lengthOf, speedOf, chordFactor, chordCap, blockCapFrom, blockCap, dotOf, turnFrom, cornerFrom, cornerCap, underCorner, junctionCap}
 use Rattle.machine.specs.Meaning.{Largest, ChordFits, CornerIs, CornerFits, JunctionFits}
 use Rattle.machine.specs.declared.Limits.{Limits}
@@ -46,7 +46,7 @@ pub cap-in-square : (l : Limits) (radius speed : ℕ) → blockCapFrom l radius 
 unfolding blockCapFrom
 cap-in-square l radius speed = go (eqb radius 0)
   where
-    go : (t : Bool) → pick t (speed * speed) (cappedQuotient (speed * speed) (chordFactor l radius * 1_000_000_000_000) (l .tick * l .tick)) ≤ speed * speed
+    go : (t : Bool) → cond t (speed * speed) (cappedQuotient (speed * speed) (chordFactor l radius * 1_000_000_000_000) (l .tick * l .tick)) ≤ speed * speed
     go true = le-refl _
     go false = quotient-is (speed * speed) _ (l .tick * l .tick) .not-above-cap
 

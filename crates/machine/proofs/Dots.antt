@@ -1,4 +1,4 @@
--- The products of two blocks' moves and their sum, as the code works them out. From arith's laws of signed numbers. Assumes nothing.
+-- The products of two blocks' moves and their sum, as the code works them out. From arith's laws of signed numbers.
 use mathlib.Core.Path.{_≡_, refl}
 use Prim.Native.Nat.{ℕ, zero, suc, _+_, _-_, _*_, _^_, _≤_, _<_}
 use native.Mathlib.Nat.{mul-le-mul}

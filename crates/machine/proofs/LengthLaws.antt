@@ -1,5 +1,5 @@
 -- The length of a block: the largest whole number of document 01, at least the move on each axis and at most twice the greatest.
--- From arith's laws of roots. Assumes nothing.
+-- From arith's laws of roots.
 use mathlib.Core.Path.{_≡_}
 use Prim.Native.Nat.{ℕ, _+_, _*_, _≤_, _<_, max}
 use native.Mathlib.Nat.{mul-le-mul, mul-le-mul-left, mul-mul-mul-comm, le-antisymm, mul-add}

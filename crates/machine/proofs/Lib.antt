@@ -1,5 +1,4 @@
 -- The laws of the machine's numbers.
-pub mod AnswerLaws
 pub mod AxisLaws
 pub mod Bounds
 pub mod CapLaws
@@ -8,5 +7,5 @@ pub mod LengthLaws
 pub mod Limited
 pub mod RampLaws
 pub mod Rampables
-pub mod Steps
+pub mod Spans
 pub mod Tests

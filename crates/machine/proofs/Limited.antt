@@ -1,4 +1,4 @@
--- The largest number that each axis allows. From arith's laws of the capped quotient. Assumes nothing.
+-- The largest number that each axis allows. From arith's laws of the capped quotient.
 use mathlib.Core.Path.{_≡_, sym, _∙_}
 use Prim.Native.Nat.{ℕ, zero, suc, _*_, _/_, _≤_, _<_}
 use native.Mathlib.Nat.{le-trans, mul-zero, min-eq-right, le-of-lt, div-lt-iff-lt-mul}

@@ -1,5 +1,5 @@
 -- The ramp: the peak is document 01's largest number, not below entry or exit, and the three lengths make up the block. From the
--- laws of division. Assumes nothing.
+-- laws of division.
 use mathlib.Core.Path.{_≡_}
 use Prim.Native.Nat.{ℕ, _+_, _-_, _*_, _/_, _^_, _≤_, _<_}
 use native.Mathlib.Nat.{le-min, min-le-left, min-le-right, div-mul-le-self, mul-div-le, mul-le-mul, mul-le-mul-left, le-of-mul-le-mul-right, add-mul, mul-add, mul-comm}

@@ -1,4 +1,4 @@
--- When a ramp can be worked out. Assumes nothing.
+-- When a ramp can be worked out.
 use mathlib.Core.Path.{_≡_}
 use mathlib.Core.Bool.{true, false, _&&_}
 use Prim.Native.Nat.{ℕ, _+_, _^_, _≤_, _<_}

@@ -1,4 +1,4 @@
--- What a test that is made of several says. Assumes nothing.
+-- What a test that is made of several says.
 use mathlib.Core.Path.{_≡_, refl}
 use mathlib.Core.Bool.{Bool, true, false, _&&_}
 use Prim.Native.Nat.{ℕ}

@@ -1,8 +1,8 @@
 -- Document 01, "From a block to its numbers" and the ramp of "Plan, give out, ramp".
 -- Lengths are in µm, speeds in µm/s, squared speeds and reaches in (µm/s)², accelerations in µm/s².
-use mathlib.Core.List.{List, [], _∷_}
+use mathlib.Core.List.{List, _∷_}
 use Prim.Native.Nat.{ℕ, zero, suc, _+_, _-_, _*_, _/_, _^_, _≤_, _<_, min, max}
-use mathlib.Core.Bool.{Bool, _&&_}
+use mathlib.Core.Bool.{Bool, _&&_, cond}
 use lib.Dec.{leb, ltb, eqb}
 use lib.IntN.{ℤ, pos, _+ℤ_, _*ℤ_}
 use lib.ListN.{getD}
@@ -10,7 +10,7 @@ use Rattle.arith.specs.Root.{rootOf}
 use Rattle.arith.specs.Quotient.{cappedQuotient}
 use Rattle.arith.specs.Signed.{gapOf}
 use Rattle.machine.specs.Ranges.{mostAccel}
-use Rattle.machine.specs.Checks.{pick, movesOf}
+use Rattle.machine.specs.Checks.{movesOf}
 use Rattle.machine.specs.declared.Axes.{Axes}
 use Rattle.machine.specs.declared.Limits.{Limits}
 use Rattle.machine.specs.declared.Block.{Block}
@@ -85,7 +85,7 @@ chordCap l radius = chordFactor l radius * 1_000_000_000_000 / (l .tick * l .tic
 -- (the law `chord-capped` says that this is the smaller of v squared and the chord rule's cap)
 unfoldable pub blockCapFrom : Limits → (radius speed : ℕ) → ℕ
 blockCapFrom l radius speed =
-    pick (eqb radius 0) (speed * speed)
+    cond (eqb radius 0) (speed * speed)
     (cappedQuotient (speed * speed) (chordFactor l radius * 1_000_000_000_000) (l .tick * l .tick))
 
 abbrev pub blockCap : Limits → Block → ℕ

@@ -1,21 +1,22 @@
 // The machine's calls on limits and blocks of any values: nothing is required, what document 01
 // refuses is refused.
 ghost use mathlib.Core.Path.{_≡_};
-ghost use Rattle.machine.specs.Answers.{callRefusal, capShown, firstOf, junctionAnswer, numbersAnswer, numbersShown};
-ghost use Rattle.machine.specs.Checks.{blockRefusal, checkedNumber};
+ghost use Rattle.display.specs.Display.{_then_, checkedMeans};
+ghost use Rattle.machine.specs.Answers.{callRefusal, junctionAnswer, numbersAnswer, capMeans, numbersMeans};
+ghost use Rattle.machine.specs.Checks.{blockRefusal};
 use crate::Block;
 use crate::CapAnswer;
-use crate::Checked;
 use crate::Limits;
 use crate::NumbersAnswer;
 use crate::check::check_block;
 use crate::check::check_limits;
 use crate::corner::junction_cap;
 use crate::measure::numbers;
+use display::Checked;
 
 // Refusal 1, then the first of 2 to 6 that the block meets, or none.
 pub fn check_call(l: Limits, b: Block) -> Checked
-    ensures { λ r. ⌜ checkedNumber r ≡ callRefusal l b ⌝ }
+    ensures { λ r. ⌜ checkedMeans r ≡ callRefusal l b ⌝ }
 {
     let limits = check_limits(l);
     match limits {
@@ -26,7 +27,7 @@ pub fn check_call(l: Limits, b: Block) -> Checked
 
 // The same with a second block, whose refusals come last.
 fn check_pair(l: Limits, a: Block, b: Block) -> Checked
-    ensures { λ r. ⌜ checkedNumber r ≡ firstOf (callRefusal l a) (blockRefusal b) ⌝ }
+    ensures { λ r. ⌜ checkedMeans r ≡ (callRefusal l a then blockRefusal b) ⌝ }
 {
     let first = check_call(l, a);
     match first {
@@ -37,7 +38,7 @@ fn check_pair(l: Limits, a: Block, b: Block) -> Checked
 
 // All numbers of a block.
 pub fn numbers_answer(l: Limits, b: Block) -> NumbersAnswer
-    ensures { λ r. ⌜ numbersShown r ≡ numbersAnswer l b ⌝ }
+    ensures { λ r. ⌜ numbersMeans r ≡ numbersAnswer l b ⌝ }
 {
     let checked = check_call(l, b);
     match checked {
@@ -48,7 +49,7 @@ pub fn numbers_answer(l: Limits, b: Block) -> NumbersAnswer
 
 // The junction cap between two blocks, (µm/s)².
 pub fn junction_answer(l: Limits, a: Block, b: Block) -> CapAnswer
-    ensures { λ r. ⌜ capShown r ≡ junctionAnswer l a b ⌝ }
+    ensures { λ r. ⌜ capMeans r ≡ junctionAnswer l a b ⌝ }
 {
     let checked = check_pair(l, a, b);
     match checked {

@@ -1,13 +1,14 @@
 // The checks of limits and of a block, in the order of the numbers on the display.
 ghost use mathlib.Core.Path.{_≡_};
-ghost use Rattle.machine.specs.Checks.{axesWithin, blockRefusal, checkedNumber, greatestMove, limitsRefusal, refusalNumber, within};
+ghost use Rattle.display.specs.Display.{checkedMeans};
+ghost use Rattle.machine.specs.Checks.{axesWithin, blockRefusal, greatestMove, limitsRefusal, within};
 use crate::Axes;
 use crate::Block;
-use crate::Checked;
 use crate::Limits;
-use crate::Refusal;
 use crate::measure::moves_of;
 use arith::whole::larger;
+use display::Checked;
+use display::Refusal;
 
 // Smallest and greatest acceleration limit, µm/s².
 pub const LEAST_ACCEL: u64 = 1;
@@ -40,25 +41,6 @@ pub const MOST_RADIUS: u64 = 10_000_000;
 // Greatest mark.
 pub const MOST_MARK: u64 = 2_097_151;
 
-// The number on the display.
-pub fn refusal_number(why: Refusal) -> u64
-    ensures { λ r. ⌜ r ≡ refusalNumber why ⌝ }
-{
-    match why {
-        Refusal::Limits => 1,
-        Refusal::Still => 2,
-        Refusal::Long => 3,
-        Refusal::Feed => 4,
-        Refusal::Radius => 5,
-        Refusal::Mark => 6,
-        Refusal::Full => 7,
-        Refusal::Empty => 8,
-        Refusal::Ragged => 9,
-        Refusal::Many => 10,
-        Refusal::List => 11,
-    }
-}
-
 // Whether a value is from `low` to `high`.
 fn is_within(low: u64, high: u64, value: u64) -> bool
     ensures { λ r. ⌜ r ≡ within low high value ⌝ }
@@ -75,7 +57,7 @@ fn are_within(low: u64, high: u64, a: Axes) -> bool
 
 // Refusal 1, or none.
 pub fn check_limits(l: Limits) -> Checked
-    ensures { λ r. ⌜ checkedNumber r ≡ limitsRefusal l ⌝ }
+    ensures { λ r. ⌜ checkedMeans r ≡ limitsRefusal l ⌝ }
 {
     let accel = l.accel;
     let speed = l.speed;
@@ -101,7 +83,7 @@ fn greatest_move(b: Block) -> u64
 
 // The first of refusals 2 to 6 that a block meets, or none.
 pub fn check_block(b: Block) -> Checked
-    ensures { λ r. ⌜ checkedNumber r ≡ blockRefusal b ⌝ }
+    ensures { λ r. ⌜ checkedMeans r ≡ blockRefusal b ⌝ }
 {
     let most = greatest_move(b);
     if most == 0 {

@@ -5,6 +5,8 @@ pub mod check;
 pub mod corner;
 pub mod measure;
 
+use display::Refusal;
+
 // A quantity of each axis.
 pub struct Axes {
     pub x: u64,
@@ -60,27 +62,6 @@ pub struct Ramp {
     pub up: u64,
     pub cruise: u64,
     pub down: u64,
-}
-
-// Why a call is refused, by the word on the display.
-pub enum Refusal {
-    Limits,
-    Still,
-    Long,
-    Feed,
-    Radius,
-    Mark,
-    Full,
-    Empty,
-    Ragged,
-    Many,
-    List,
-}
-
-// The answer of a check.
-pub enum Checked {
-    Passed,
-    Refused(Refusal),
 }
 
 // The answer of a call for a block's numbers.

@@ -6,6 +6,8 @@
 // first block (length, acceleration, reach, cap), those of the second, and the junction cap between
 // them, each of the three with its refusal in its place, and ` | ` between.
 ghost use Prim.Native.Nat.{_<_};
+use display::Refusal;
+use display::refusal_number;
 use fields::signed_word;
 use libc::STDIN_FILENO;
 use libc::STDOUT_FILENO;
@@ -15,10 +17,8 @@ use machine::CapAnswer;
 use machine::Limits;
 use machine::Numbers;
 use machine::NumbersAnswer;
-use machine::Refusal;
 use machine::answer::junction_answer;
 use machine::answer::numbers_answer;
-use machine::check::refusal_number;
 use std::num::wrapping_sub_u64;
 
 // Numbers of a case.

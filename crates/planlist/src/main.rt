@@ -3,12 +3,12 @@
 use arguments::work_asked;
 use libc::STDERR_FILENO;
 use libc::STDOUT_FILENO;
+use listing::Listing;
+use listing::PARTS;
+use listing::TEXT;
 use streams::Input;
 use streams::read_input;
 use tape::MOST_BYTES;
-use tapelist::Listing;
-use tapelist::PARTS;
-use tapelist::TEXT;
 
 // One byte more than the longest tape: a longer input is refused by 10 whatever follows, so no more of it is read.
 const INPUT: usize = MOST_BYTES + 1;

@@ -1,4 +1,4 @@
--- Each promise of the planner has one outcome: two that meet it are equal, whatever the memory holds. Assumes nothing.
+-- Each promise of the planner has one outcome: two that meet it are equal, whatever the memory holds.
 use mathlib.Core.List.{List}
 use mathlib.Core.Path.{_≡_, sym, _∙_}
 use Prim.Native.Nat.{ℕ}

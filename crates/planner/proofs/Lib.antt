@@ -1,5 +1,5 @@
 pub mod Demand
 pub mod Determined
 pub mod Outcomes
-pub mod Steps
+pub mod Passes
 pub mod View

@@ -1,5 +1,5 @@
--- What a call answers and leaves, by the tests that the code makes. Assumes nothing.
-use mathlib.Core.Bool.{Bool}
+-- What a call answers and leaves, by the tests that the code makes.
+use mathlib.Core.Bool.{Bool, cond}
 use mathlib.Core.List.{List}
 use mathlib.Core.Path.{_≡_, refl, sym, ap, _∙_}
 use Prim.Native.Nat.{ℕ, zero, suc, _+_, _≤_, _<_}
@@ -7,11 +7,11 @@ use borrow.Author.Tests.{le-leb, lt-leb, eq-eqb, ne-eqb}
 use native.Mathlib.Omega.{arith}
 use lib.Dec.{lit<, leb}
 use lib.ListN.{length}
-use Rattle.machine.specs.Answers.{firstOf}
-use Rattle.machine.specs.Checks.{limitsRefusal, blockRefusal, pick}
+use Rattle.display.proofs.Answers.{then-first}
+use Rattle.display.specs.Display.{_then_}
+use Rattle.machine.specs.Checks.{limitsRefusal, blockRefusal}
 use Rattle.machine.specs.declared.Block.{Block}
 use Rattle.machine.specs.declared.Limits.{Limits}
-use Rattle.machine.specs.declared.Refusal.the-variants as why
 use Rattle.line.specs.declared.Given.{Given}
 use Rattle.line.specs.Answers.{Answer, accepted, gave, refused, answerBy}
 use Rattle.line.specs.Blocks.{mostHeld, Call, add, take, addRefusal}
@@ -85,21 +85,17 @@ refused-by m b n sized h e =
 module _ (m : List ℕ) (b : Block) (sized : length m ≡ memorySize) where
   -- The block is refused,
   pub add-refused : (n : ℕ) → 0 < n → n ≡ blockRefusal b → Called m (add b) (refused n) m
-  add-refused n h e = refused-by m b n sized h (first n _ h ∙ ap (λ (k : ℕ). firstOf k (pick (leb mostHeld (viewOf m .count)) 7 0)) e)
-    where
-      first : (n k : ℕ) → 0 < n → n ≡ firstOf n k
-      first zero k h = absurd (omega arith)
-      first (suc n) k h = refl
+  add-refused n h e = refused-by m b n sized h (sym (then-first _ h) ∙ ap (λ (k : ℕ). k then cond (leb mostHeld (viewOf m .count)) 7 0) e)
 
   -- all places are taken,
   pub add-full : 0 ≡ blockRefusal b → mostHeld ≤ viewOf m .count → Called m (add b) (refused 7) m
-  add-full e full = refused-by m b 7 sized (lit< tt) (sym (λ i. firstOf (sym e i) (pick (le-leb mostHeld (viewOf m .count) full i) 7 0)))
+  add-full e full = refused-by m b 7 sized (lit< tt) (sym (λ i. sym e i then cond (le-leb mostHeld (viewOf m .count) full i) 7 0))
 
   -- or the block is put last.
   pub add-put : (m′ : List ℕ) → 0 ≡ blockRefusal b → viewOf m .count < mostHeld → Memory (putLast (viewOf m) b) m′ → Called m (add b) accepted m′
   unfolding ringAnswer ringAfter
   add-put m′ e room held =
-      let none = sym (ap (λ (k : ℕ). firstOf k (pick (leb mostHeld (viewOf m .count)) 7 0)) (sym e) ∙ ap (λ (t : Bool). pick t 7 0) (lt-leb mostHeld (viewOf m .count) room)) in
+      let none = sym (ap (λ (k : ℕ). k then cond (leb mostHeld (viewOf m .count)) 7 0) (sym e) ∙ ap (λ (t : Bool). cond t 7 0) (lt-leb mostHeld (viewOf m .count) room)) in
       called m m′ (add b) accepted (held .sized) (ap answerBy none) (held .view ∙ ap (λ (k : ℕ). addedIn k (viewOf m) b) none)
       (λ k q. absurd (accepted-not k q))
 
@@ -128,10 +124,10 @@ module _ (m : List ℕ) where
 -- A list of the right length gets the plan; any other stays as it is.
 module _ (m held : List ℕ) where
   right-length : length held ≡ toldOf (viewOf m) + 1 → showRefusal (viewOf m) (length held) ≡ 0
-  right-length e = ap (λ (t : Bool). pick t 0 11) (eq-eqb _ _ e)
+  right-length e = ap (λ (t : Bool). cond t 0 11) (eq-eqb _ _ e)
 
   wrong-length : (length held ≡ toldOf (viewOf m) + 1 → ⊥) → showRefusal (viewOf m) (length held) ≡ 11
-  wrong-length e = ap (λ (t : Bool). pick t 0 11) (ne-eqb _ _ e)
+  wrong-length e = ap (λ (t : Bool). cond t 0 11) (ne-eqb _ _ e)
 
   pub shown-all : (exit : List ℕ) → length held ≡ toldOf (viewOf m) + 1 → exit ≡ shownIn (viewOf m) → Showed m held accepted exit
   shown-all exit e s =

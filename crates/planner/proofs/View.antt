@@ -1,6 +1,6 @@
--- The memory as a ring: what is read of a place, and what the view is after stores. Assumes nothing.
+-- The memory as a ring: what is read of a place, and what the view is after stores.
 use mathlib.Core.Bool.{Bool, true, false}
-use mathlib.Core.List.{List, [], _∷_, append-nil}
+use mathlib.Core.List.{List, _∷_, append-nil}
 use mathlib.Core.Path.{_≡_, refl, sym, ap, _∙_}
 use Prim.Native.Nat.{ℕ, zero, suc, _+_, _-_, _*_, _/_, _%_, _≤_, _<_}
 use borrow.Author.Tests.{ltb-true, ltb-false}
@@ -12,7 +12,7 @@ use lib.ListN.{length, getD, set, length-set}
 use lib.Seq.{sets, sets-eq, drop-length, getD-set-same, getD-set-other, ext-getD}
 use Rattle.machine.specs.declared.Limits.{Limits}
 use Rattle.line.specs.Blocks.{mostHeld}
-use Rattle.line.specs.Ring.{Place, Ring, noPlace, placeAt, slot, withPlace, withLimit, freshRing}
+use Rattle.line.specs.Ring.{Place, Ring, noPlace, placeAt, slot, withPlace, withBrake, freshRing}
 use Rattle.machine.specs.Lists.{limitNumbers, limitsFrom}
 use Rattle.planner.specs.View.{memorySize, headSize, placeSize, baseOf, placeFrom, numbersFor, placesFrom, viewOf}
 
@@ -75,7 +75,7 @@ place-same m′ m at e e₀ =
       reach = e 8 (lit< tt) i;
       cap = e 9 (lit< tt) i;
       junction = e 10 (lit< tt) i;
-      limit = e 11 (lit< tt) i;
+      brake = e 11 (lit< tt) i;
     }
 
 places-same : (n : ℕ) (m′ m : List ℕ) (at : ℕ) → SameFrom at m′ m → placesFrom n m′ at ≡ placesFrom n m at
@@ -140,7 +140,7 @@ place-stored m at p h =
       reach = e 8 (lit< tt) i;
       cap = e 9 (lit< tt) i;
       junction = e 10 (lit< tt) i;
-      limit = e 11 (lit< tt) i;
+      brake = e 11 (lit< tt) i;
     }
 
 -- Twelve stores one after the other are a run.
@@ -213,9 +213,9 @@ view-put m k p e =
     (sets-above (numbersFor p) m (baseOf i))
     (place-stored m (baseOf i) p (omega (arith, slot-below (viewOf m) k)))
 
-limit-stored : (m : List ℕ) (at v : ℕ) → at + placeSize ≤ length m → placeFrom (set m (at + 11) v) at ≡ withLimit (placeFrom m at) v
+brake-stored : (m : List ℕ) (at v : ℕ) → at + placeSize ≤ length m → placeFrom (set m (at + 11) v) at ≡ withBrake (placeFrom m at) v
 unfolding placeFrom
-limit-stored m at v h =
+brake-stored m at v h =
     let e : (j : ℕ) → j < 11 → getD (set m (at + 11) v) (at + j) 0 ≡ getD m (at + j) 0 = λ j q. getD-set-other m (at + 11) (at + j) v 0 (λ n. omega arith) in
     λ i.
     record {
@@ -230,17 +230,17 @@ limit-stored m at v h =
       reach = e 8 (lit< tt) i;
       cap = e 9 (lit< tt) i;
       junction = e 10 (lit< tt) i;
-      limit = getD-set-same m (at + 11) v 0 (omega arith) i;
+      brake = getD-set-same m (at + 11) v 0 (omega arith) i;
     }
 
--- and of its limit alone.
-pub view-limit : (m : List ℕ) (k v : ℕ) → length m ≡ memorySize → viewOf (set m (baseOf (slot (viewOf m) k) + 11) v) ≡ withPlace (viewOf m) k (withLimit (placeAt (viewOf m) k) v)
-view-limit m k v e =
+-- and of its brake alone.
+pub view-brake : (m : List ℕ) (k v : ℕ) → length m ≡ memorySize → viewOf (set m (baseOf (slot (viewOf m) k) + 11) v) ≡ withPlace (viewOf m) k (withBrake (placeAt (viewOf m) k) v)
+view-brake m k v e =
     let i = slot (viewOf m) k in
-    view-stored (set m (baseOf i + 11) v) m i (withLimit (placeAt (viewOf m) k) v) (slot-below (viewOf m) k)
+    view-stored (set m (baseOf i + 11) v) m i (withBrake (placeAt (viewOf m) k) v) (slot-below (viewOf m) k)
     (λ j q. getD-set-other m (baseOf i + 11) j v 0 (λ n. omega arith))
     (λ j q. getD-set-other m (baseOf i + 11) j v 0 (λ n. omega arith))
-    (limit-stored m (baseOf i) v (omega (arith, slot-below (viewOf m) k)) ∙ ap (λ (p : Place). withLimit p v) (sym (ring-place m k)))
+    (brake-stored m (baseOf i) v (omega (arith, slot-below (viewOf m) k)) ∙ ap (λ (p : Place). withBrake p v) (sym (ring-place m k)))
 
 -- The view after the count was stored,
 pub view-count : (m : List ℕ) (n : ℕ) → length m ≡ memorySize

@@ -1,5 +1,5 @@
 -- What the calls of a planner promise: the answer, and every number of the memory afterwards.
-use mathlib.Core.List.{List, [], _∷_}
+use mathlib.Core.List.{List, _∷_}
 use mathlib.Core.Path.{_≡_}
 use Prim.Native.Nat.{ℕ, zero, suc, _<_}
 use lib.ListN.{length}
@@ -16,10 +16,10 @@ use Rattle.planner.specs.View.{memorySize, viewOf}
 
 -- the backward and the forward step of a place's block
 abbrev pub brakeIn : Place → ℕ
-brakeIn p = brakeFrom (p .junction) (p .reach) (p .limit)
+brakeIn p = brakeFrom (p .junction) (p .reach) (p .brake)
 
 abbrev pub exitIn : Place → (entry : ℕ) → ℕ
-exitIn p entry = exitFrom entry (p .reach) (p .limit)
+exitIn p entry = exitFrom entry (p .reach) (p .brake)
 
 -- A memory that holds a ring.
 pub record Memory (ring : Ring) (m : List ℕ) : Type 0 where

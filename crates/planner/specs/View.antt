@@ -1,5 +1,5 @@
 -- A planner's memory, 780 numbers, read as a ring: 12 numbers of the head, then 12 for each of the 64 places.
-use mathlib.Core.List.{List, [], _∷_}
+use mathlib.Core.List.{List, _∷_}
 use Prim.Native.Nat.{ℕ, zero, suc, _+_, _*_}
 use lib.ListN.{getD}
 use Rattle.machine.specs.Lists.{limitsFrom}
@@ -35,13 +35,13 @@ placeFrom m at =
       reach = getD m (at + 8) 0;
       cap = getD m (at + 9) 0;
       junction = getD m (at + 10) 0;
-      limit = getD m (at + 11) 0;
+      brake = getD m (at + 11) 0;
     }
 
 -- the numbers of a place
 abbrev pub numbersFor : Place → List ℕ
 numbersFor p =
-    p .x ∷ p .y ∷ p .z ∷ p .feed ∷ p .radius ∷ p .mark ∷ p .length ∷ p .accel ∷ p .reach ∷ p .cap ∷ p .junction ∷ p .limit ∷ []
+    p .x ∷ p .y ∷ p .z ∷ p .feed ∷ p .radius ∷ p .mark ∷ p .length ∷ p .accel ∷ p .reach ∷ p .cap ∷ p .junction ∷ p .brake ∷ []
 
 -- n places one after the other
 unfoldable pub placesFrom : (n : ℕ) → List ℕ → (at : ℕ) → List Place

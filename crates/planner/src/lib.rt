@@ -1,16 +1,16 @@
 // A planner of at most 64 blocks in 780 numbers that the caller lends. Every content of the memory
 // is answered: nothing is required of it. What the calls answer and leave is in specs/Calls.antt.
 ghost use lib.ListN.{replicate};
-ghost use Rattle.machine.specs.Checks.{checkedNumber};
+ghost use Rattle.display.specs.Display.{checkedMeans};
 ghost use Rattle.line.specs.Answers.{addMeans, showMeans, takeMeans};
 ghost use Rattle.line.specs.Blocks as blocks;
 ghost use Rattle.planner.specs.Calls.{Called, Freshened, Showed, Told};
 ghost use Rattle.planner.specs.View.{memorySize};
+use display::Checked;
 use line::AddAnswer;
 use line::ShowAnswer;
 use line::TakeAnswer;
 use machine::Block;
-use machine::Checked;
 use machine::Limits;
 
 mod memory;
@@ -22,7 +22,7 @@ pub const NUMBERS: usize = 780;
 // Makes a fresh planner of the limits; its places hold whatever they held. Refusal 1 changes
 // nothing.
 pub fn fresh(memory: &mut [u64; NUMBERS], l: Limits) -> Checked
-    ensures { λ r. ⌜ Freshened (now (memory .entry)) l (checkedNumber r) (now (memory .exit)) ⌝ }
+    ensures { λ r. ⌜ Freshened (now (memory .entry)) l (checkedMeans r) (now (memory .exit)) ⌝ }
 {
     ring::fresh_in(memory, l)
 }
@@ -103,7 +103,7 @@ impl Planner {
     pub const MOST_TICK: u64 = machine::check::MOST_TICK;
 
     pub fn fresh(l: Limits) -> Made
-        ensures { λ r. ⌜ Freshened (replicate memorySize 0) l (checkedNumber (r .answer)) (r .planner .numbers) ⌝ }
+        ensures { λ r. ⌜ Freshened (replicate memorySize 0) l (checkedMeans (r .answer)) (r .planner .numbers) ⌝ }
     {
         let mut numbers = [0u64; NUMBERS];
         let answer = fresh(&mut numbers, l);

@@ -1,7 +1,7 @@
 // The numbers of a planner's memory: where each stands, read and stored. Indices are within the
 // memory whatever it holds.
 ghost use mathlib.Core.Path.{_≡_};
-ghost use mathlib.Core.List.{[], _∷_};
+ghost use mathlib.Core.List.{_∷_};
 ghost use mathlib.Core.Bool.{cond};
 ghost use Prim.Native.Nat.{_+_, _-_, _%_, _≤_};
 ghost use lib.Dec.{leb};
@@ -70,7 +70,7 @@ pub const CAP: usize = 9;
 
 pub const JUNCTION: usize = 10;
 
-pub const LIMIT: usize = 11;
+pub const BRAKE: usize = 11;
 // Bits of a move.
 const MOVE_BITS: usize = 21;
 // Limits are used below this.
@@ -147,13 +147,13 @@ pub fn numbers_in(memory: &[u64], at: usize) -> Numbers
 }
 
 // The greatest squared speed where a place's block begins from which it and the blocks after it can
-// brake, (µm/s)². The place's own limit is handed in: the walk back has just stored it, and reading it
+// brake, (µm/s)². The place's own brake is handed in: the walk back has just stored it, and reading it
 // again would wait for the store.
-pub fn brake_at(memory: &[u64], at: usize, limit: u64) -> u64
-    requires { ⌜ (length (now memory) ≡ memorySize) × (at ≤ 768) × (limit ≡ placeFrom (now memory) at .limit) ⌝ }
+pub fn brake_at(memory: &[u64], at: usize, brake: u64) -> u64
+    requires { ⌜ (length (now memory) ≡ memorySize) × (at ≤ 768) × (brake ≡ placeFrom (now memory) at .brake) ⌝ }
     ensures { λ r. ⌜ r ≡ brakeIn (placeFrom (now (memory .entry)) at) ⌝ }
 {
-    brake_from(memory[at + JUNCTION], memory[at + REACH], limit)
+    brake_from(memory[at + JUNCTION], memory[at + REACH], brake)
 }
 
 // The squared speed at the end of a place's block, from its entry.
@@ -161,7 +161,7 @@ pub fn exit_at(memory: &[u64], at: usize, entry: u64) -> u64
     requires { ⌜ (length (now memory) ≡ memorySize) × (at ≤ 768) ⌝ }
     ensures { λ r. ⌜ r ≡ exitIn (placeFrom (now (memory .entry)) at) entry ⌝ }
 {
-    exit_from(entry, memory[at + REACH], memory[at + LIMIT])
+    exit_from(entry, memory[at + REACH], memory[at + BRAKE])
 }
 
 // Stores a block with its numbers in a place; nothing after it can be braked in yet.
@@ -183,7 +183,7 @@ pub fn store_place(memory: &mut [u64], at: usize, b: Block, n: Numbers, junction
     memory[at + REACH] = n.reach;
     memory[at + CAP] = n.cap;
     memory[at + JUNCTION] = junction;
-    memory[at + LIMIT] = 0;
+    memory[at + BRAKE] = 0;
 }
 
 // Stores the head of a planner that holds nothing and stands still.

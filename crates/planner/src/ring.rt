@@ -4,19 +4,21 @@ ghost use mathlib.Core.Path.{_≡_};
 ghost use Prim.Native.Nat.{_+_, _^_, _-_, _<_};
 ghost use lib.Dec.{eqb};
 ghost use lib.ListN.{length};
-ghost use Rattle.machine.specs.Checks.{blockRefusal, checkedNumber, movesOf, pick};
+ghost use Rattle.display.specs.Display.{checkedMeans};
+ghost use mathlib.Core.Bool.{cond};
+ghost use Rattle.machine.specs.Checks.{blockRefusal, movesOf};
 ghost use Rattle.machine.specs.Numbers.{AxesBelow};
 ghost use Rattle.line.specs.Answers.{addMeans, showMeans, takeMeans};
 ghost use Rattle.line.specs.Blocks.{add, take};
 ghost use Rattle.line.specs.Ring.{junctionAfter, placeAt, putLast, speedsFrom, walkBack};
 ghost use Rattle.planner.specs.Calls.{Called, Freshened, GaveFirst, Memory, Showed, Told};
 ghost use Rattle.planner.specs.View.{memorySize, viewOf};
+use crate::memory::BRAKE;
 use crate::memory::CAP;
 use crate::memory::COMMITTED;
 use crate::memory::COUNT;
 use crate::memory::FIRST;
 use crate::memory::LENGTH;
-use crate::memory::LIMIT;
 use crate::memory::PLACES;
 use crate::memory::block_in;
 use crate::memory::brake_at;
@@ -28,15 +30,15 @@ use crate::memory::place_before;
 use crate::memory::store_fresh;
 use crate::memory::store_place;
 use arith::whole::smaller;
+use display::Checked;
+use display::Refusal;
 use line::AddAnswer;
 use line::Given;
 use line::ShowAnswer;
 use line::TakeAnswer;
 use machine::Block;
-use machine::Checked;
 use machine::Limits;
 use machine::Numbers;
-use machine::Refusal;
 use machine::check::check_block;
 use machine::check::check_limits;
 use machine::corner::under_corner;
@@ -49,7 +51,7 @@ const LENGTH_END: u64 = 0x4000_0000;
 // The cap of the junction between the last block held and a new one, (µm/s)²; 0 where none is held.
 fn new_junction(memory: &[u64], l: Limits, b: Block, n: Numbers) -> u64
     requires { ⌜ (length (now memory) ≡ memorySize) × (l .jump < 2 ^ 32) × (n .length < 2 ^ 30) × AxesBelow (2 ^ 21) (movesOf b) ⌝ }
-    ensures { λ r. ⌜ r ≡ pick (eqb (viewOf (now (memory .entry)) .count) 0) 0 (junctionAfter l (placeAt (viewOf (now (memory .entry))) (viewOf (now (memory .entry)) .count - 1)) b n) ⌝ }
+    ensures { λ r. ⌜ r ≡ cond (eqb (viewOf (now (memory .entry)) .count) 0) 0 (junctionAfter l (placeAt (viewOf (now (memory .entry))) (viewOf (now (memory .entry)) .count - 1)) b n) ⌝ }
 {
     let count = memory[COUNT];
     if count == 0 {
@@ -62,22 +64,22 @@ fn new_junction(memory: &[u64], l: Limits, b: Block, n: Numbers) -> u64
     under_corner(cap, l.jump, before, length, b, n.length)
 }
 
-// The walk back from block `count`: each block before it gets its limit anew, until one has it already.
+// The walk back from block `count`: each block before it gets its brake anew, until one has it already.
 fn walk_back(memory: &mut [u64], count: u64)
     requires { ⌜ length (now memory) ≡ memorySize ⌝ }
     ensures { λ r. ⌜ Memory (walkBack count (viewOf (now (memory .entry)))) (now (memory .exit)) ⌝ }
 {
     let mut k = count;
     let mut after = place(memory[FIRST], k);
-    let mut limit = memory[after + LIMIT];
+    let mut brake = memory[after + BRAKE];
     while 0 < k {
-        limit = brake_at(memory, after, limit);
+        brake = brake_at(memory, after, brake);
         k -= 1;
         let at = place_before(after);
-        if memory[at + LIMIT] == limit {
+        if memory[at + BRAKE] == brake {
             return;
         }
-        memory[at + LIMIT] = limit;
+        memory[at + BRAKE] = brake;
         after = at;
     }
 }
@@ -191,7 +193,7 @@ pub fn show_in(memory: &[u64], list: &mut [u64]) -> ShowAnswer
 // Makes a fresh planner of the limits, or refuses them by 1.
 pub fn fresh_in(memory: &mut [u64], l: Limits) -> Checked
     requires { ⌜ length (now memory) ≡ memorySize ⌝ }
-    ensures { λ r. ⌜ Freshened (now (memory .entry)) l (checkedNumber r) (now (memory .exit)) ⌝ }
+    ensures { λ r. ⌜ Freshened (now (memory .entry)) l (checkedMeans r) (now (memory .exit)) ⌝ }
 {
     match check_limits(l) {
         Checked::Refused(r) => Checked::Refused(r),

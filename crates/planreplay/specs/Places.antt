@@ -1,4 +1,4 @@
--- Reading a trace chunk by chunk: where it ends, and how much of a chunk was run. Assumes nothing.
+-- Reading a trace chunk by chunk: where it ends, and how much of a chunk was run.
 use Prim.Native.Nat.{ℕ}
 use Rattle.planreplay.specs.declared.Turn.{Turn}
 use Rattle.planreplay.specs.declared.Turn.the-variants.{Ran, Unwritten, Unread}

@@ -6,26 +6,26 @@
 ghost use mathlib.Core.Path.{_≡_};
 ghost use Prim.Native.Nat.{_≤_, _<_};
 ghost use lib.ListN.{length};
-ghost use Rattle.replaylist.specs.Texts.{cutPlace};
-ghost use Rattle.replaylist.specs.Turns.{chunkBytes};
+ghost use Rattle.replay_text.specs.Texts.{cutPlace};
+ghost use Rattle.replay_text.specs.Turns.{chunkBytes};
 ghost use Rattle.planreplay.specs.Places.{endCalls, turnBytes};
 use arguments::work_asked;
+use display::Refusal;
+use display::refusal_number;
 use libc::STDERR_FILENO;
 use libc::STDOUT_FILENO;
-use listing::Put;
 use machine::Limits;
-use machine::Refusal;
-use machine::check::refusal_number;
 use planner::NUMBERS;
 use replay::CALL_BYTES;
-use replaylist::TEXT;
+use replay_text::TEXT;
 use streams::Input;
 use streams::read_input;
 use tape::LIMITS_BYTES;
 use tape::LimitsRead;
+use text::Put;
 
 // Bytes of a chunk: as many calls as are run at a time.
-const CHUNK: usize = CALL_BYTES * replaylist::CALLS;
+const CHUNK: usize = CALL_BYTES * replay_text::CALLS;
 // Reading ends at this many calls, which no input has.
 const MOST_CALLS: u64 = 18_446_744_073_709_551_000;
 
@@ -58,7 +58,7 @@ fn say(n: usize, text: &[u8]) -> bool
 
 // Writes the line of a refusal with its place. Returns whether it was taken.
 fn say_refused(number: u64, place: u64, text: &mut [u8]) -> bool {
-    match listing::put_refused_at(text, 0, number, place) {
+    match text::put_refused_at(text, 0, number, place) {
         Put::At(end) => say(end, text),
         Put::NoRoom => say(0, text),
     }
@@ -71,7 +71,7 @@ fn run_next(chunk: &mut [u8], memory: &mut [u64; NUMBERS], text: &mut [u8; TEXT]
     match read_input(chunk) {
         Input::Failed => Turn::Unread,
         Input::Bytes(got) => {
-            let end = replaylist::run_chunk(&chunk[..got], memory, text);
+            let end = replay_text::run_chunk(&chunk[..got], memory, text);
             if !say(end, text) {
                 return Turn::Unwritten;
             }
@@ -113,7 +113,7 @@ fn run_calls(memory: &mut [u64; NUMBERS], text: &mut [u8; TEXT]) -> Ended {
                 }
             }
         }
-        calls += replaylist::CALLS as u64;
+        calls += replay_text::CALLS as u64;
     }
     Ended::At(0)
 }
@@ -142,7 +142,7 @@ fn finish(place: u64, memory: &[u64; NUMBERS], text: &mut [u8; TEXT]) -> bool {
             return false;
         }
     }
-    let end = replaylist::close(memory, text);
+    let end = replay_text::close(memory, text);
     say(end, text)
 }
 

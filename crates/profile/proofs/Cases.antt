@@ -1,12 +1,12 @@
 -- Worked plans, computed from the definitions, in (µm/s)². The first three have the caps and reaches of document 01's proof
--- cases on machine M. Assumes nothing.
+-- cases on machine M.
 use mathlib.Core.Path.{_≡_, refl}
-use mathlib.Core.List.{[], _∷_}
+use mathlib.Core.List.{_∷_}
 use Prim.Native.Nat.{ℕ}
-use Rattle.profile.specs.Line.{Step}
+use Rattle.profile.specs.Line.{Span}
 use Rattle.profile.specs.Passes.{brake, startLimit, forward, planOf}
 
-abbrev step : ℕ → ℕ → Step
+abbrev step : ℕ → ℕ → Span
 step c r = record { cap = c; reach = r }
 
 -- One block; two straight on; two at a right angle; a line whose junctions are held in turn by the forward pass, a cap and

@@ -1,21 +1,20 @@
 -- The plan is the highest lawful profile where one exists, and `CanBrake` says where: from the laws of the two passes.
--- Assumes nothing.
 use mathlib.Core.Logic.{_⊎_, inl, inr}
 use mathlib.Core.Path.{_≡_, _∙_, sym}
-use mathlib.Core.List.{List, [], _∷_}
+use mathlib.Core.List.{List, _∷_}
 use Prim.Native.Nat.{ℕ, zero, suc, _+_, _≤_, _<_}
 use native.Mathlib.Numerals.{add-one}
 use native.Mathlib.Omega.{arith}
 use native.Mathlib.Decide.{decLe}
 use lib.ListN.{length, drop, replicate}
 use lib.Seq.{ext-getD}
-use Rattle.profile.specs.Line.{Step, capAt, numberAt, Lawful, Highest}
+use Rattle.profile.specs.Line.{Span, capAt, numberAt, Lawful, Highest}
 use Rattle.profile.specs.Passes.{brake, startLimit, CanBrake, planOf}
 use Rattle.profile.proofs.Brake.{down, brake-drop, brake-cap, startLimit-drop, startLimit-end}
 use Rattle.profile.proofs.Plan.{plan-first, plan-next, plan-keeps, plan-length, plan-none}
 
 -- No lawful profile passes the backward pass at a junction after 0.
-pub lawful-brake : (committed : ℕ) (line : List Step) (profile : List ℕ) → Lawful committed line profile
+pub lawful-brake : (committed : ℕ) (line : List Span) (profile : List ℕ) → Lawful committed line profile
     → (k : ℕ) → 0 < k → k ≤ length line → numberAt profile k ≤ brake (drop k line)
 lawful-brake committed line profile l k p i =
     down (λ j. 0 < j → numberAt profile j ≤ brake (drop j line)) (length line)
@@ -24,7 +23,7 @@ lawful-brake committed line profile l k p i =
     k i p
 
 -- A lawful profile exists only where the line can brake.
-pub lawful-canBrake : (committed : ℕ) (line : List Step) (profile : List ℕ) → Lawful committed line profile → CanBrake committed line
+pub lawful-canBrake : (committed : ℕ) (line : List Span) (profile : List ℕ) → Lawful committed line profile → CanBrake committed line
 lawful-canBrake committed [] profile l = omega (arith, l .begins, l .ends)
 lawful-canBrake committed (s ∷ line) profile l =
     omega (
@@ -35,7 +34,7 @@ lawful-canBrake committed (s ∷ line) profile l =
       startLimit-drop (s ∷ line) 0 (omega arith),
     )
 
-module _ (committed : ℕ) (line : List Step) (h : CanBrake committed line) where
+module _ (committed : ℕ) (line : List Span) (h : CanBrake committed line) where
   -- After junction 0 the plan is at most the backward pass.
   pub plan-brake : (k : ℕ) → 0 < k → k ≤ length line → numberAt (planOf committed line) k ≤ brake (drop k line)
   plan-brake zero p i = omega arith
@@ -85,7 +84,7 @@ module _ (committed : ℕ) (line : List Step) (h : CanBrake committed line) wher
   ]
 
 -- Two highest lawful profiles are the same list.
-pub highest-unique : (committed : ℕ) (line : List Step) (one two : List ℕ) → Highest committed line one → Highest committed line two → one ≡ two
+pub highest-unique : (committed : ℕ) (line : List Span) (one two : List ℕ) → Highest committed line one → Highest committed line two → one ≡ two
 highest-unique committed line one two a b =
     ext-getD 0 one two (a .lawful .sized ∙ sym (b .lawful .sized))
     λ k i.
@@ -93,13 +92,13 @@ highest-unique committed line one two a b =
     omega (arith, a .above two (b .lawful) k inside, b .above one (a .lawful) k inside)
 
 -- A highest lawful profile is the plan.
-pub highest-plan : (committed : ℕ) (line : List Step) (profile : List ℕ) → Highest committed line profile → profile ≡ planOf committed line
+pub highest-plan : (committed : ℕ) (line : List Span) (profile : List ℕ) → Highest committed line profile → profile ≡ planOf committed line
 highest-plan committed line profile a =
     highest-unique committed line profile (planOf committed line) a
     (plan-highest committed line (lawful-canBrake committed line profile (a .lawful)))
 
 -- The plan is the highest lawful profile, or there is no lawful profile and the plan is zeros.
-pub highest-or-none : (committed : ℕ) (line : List Step)
+pub highest-or-none : (committed : ℕ) (line : List Span)
     → Highest committed line (planOf committed line)
     ⊎ (((profile : List ℕ) → ¬ Lawful committed line profile) × (planOf committed line ≡ replicate (length line + 1) 0))
 highest-or-none committed line = elim (decLe committed (startLimit line)) [

@@ -1,6 +1,5 @@
 -- The two passes in one list of n + 1 numbers: the backward pass stores from the end to junction 1, then the forward pass
 -- stores the plan from junction 0 to the end. One law for each store, from those of kept numbers.
--- Assumes nothing.
 use mathlib.Core.Path.{_≡_, _∙_, ap}
 use mathlib.Core.List.{List}
 use Prim.Native.Nat.{ℕ, _+_, _<_}
@@ -8,15 +7,15 @@ use native.Mathlib.Nat.{le-refl}
 use native.Mathlib.Omega.{arith}
 use lib.ListN.{length, drop, set}
 use lib.Seq.{getD-set-same, getD-set-other}
-use Rattle.profile.specs.Line.{Step, capAt, reachAt, numberAt}
+use Rattle.profile.specs.Line.{Span, capAt, reachAt, numberAt}
 use Rattle.profile.specs.Passes.{brake, brakeFrom, exitFrom, CanBrake, Braked, Planned}
 use Rattle.profile.proofs.Kept.{braked-end, braked-store, planned-first, planned-store}
 
 -- During the forward pass: the plan's numbers up to junction k, the backward pass's after it.
-abbrev pub InPlace : ℕ → List Step → List ℕ → ℕ → Type 0
+abbrev pub InPlace : ℕ → List Span → List ℕ → ℕ → Type 0
 InPlace committed line list k = Planned committed line (numberAt list) k × Braked line (numberAt list) (k + 1)
 
-module _ (line : List Step) (list : List ℕ) (sized : length list ≡ length line + 1) where
+module _ (line : List Span) (list : List ℕ) (sized : length list ≡ length line + 1) where
   -- A store before the junctions that are right leaves them right.
   pub braked-set : (first k v : ℕ) → k < first → Braked line (numberAt list) first → Braked line (numberAt (set list k v)) first
   braked-set first k v h b i p q = getD-set-other list k i v 0 (omega arith) ∙ b i p q

@@ -1,21 +1,20 @@
 -- Numbers kept for the junctions of a line, for any store that reads them by an index: how they come to be the backward
 -- pass's (`Braked`) and the plan's (`Planned`), and what stays right when a step is added or taken. From the laws of the passes.
--- Assumes nothing.
 use mathlib.Core.Logic.{_≢_}
 use mathlib.Core.Path.{_≡_, refl, _∙_, sym}
-use mathlib.Core.List.{List, [], _∷_, _++_}
+use mathlib.Core.List.{List, _∷_, _++_}
 use Prim.Native.Nat.{ℕ, zero, suc, _+_, _-_, _≤_, _<_}
 use native.Mathlib.Nat.{le-refl, add-comm}
 use native.Mathlib.Omega.{arith}
 use native.Mathlib.Decide.{decLe}
 use lib.ListN.{length, drop, length-drop, length-append}
 use lib.Seq.{ext-getD, drop-drop}
-use Rattle.profile.specs.Line.{Step, capAt, reachAt, numberAt}
+use Rattle.profile.specs.Line.{Span, capAt, reachAt, numberAt}
 use Rattle.profile.specs.Passes.{brake, brakeFrom, exitFrom, CanBrake, planOf, Braked, Planned}
 use Rattle.profile.proofs.Brake.{down, brake-drop, brake-end, brake-same}
 use Rattle.profile.proofs.Plan.{plan-first, plan-next, plan-length}
 
-module _ (line : List Step) (kept : ℕ → ℕ) where
+module _ (line : List Span) (kept : ℕ → ℕ) where
   -- The backward pass begins with 0 at the line's end.
   pub braked-end : kept (length line) ≡ 0 → Braked line kept (length line)
   braked-end e i p q =
@@ -46,16 +45,16 @@ module _ (line : List Step) (kept : ℕ → ℕ) where
   braked-taken first h b i p q = rw (drop-drop i 1 line, add-comm 1 i) (b (i + 1) (omega arith) (omega (arith, length-drop 1 line)))
 
 -- The first step's cap plays no part after junction 0.
-pub braked-head : (s t : Step) (line : List Step) (kept : ℕ → ℕ) (first : ℕ) → 0 < first → Braked (s ∷ line) kept first → Braked (t ∷ line) kept first
+pub braked-head : (s t : Span) (line : List Span) (kept : ℕ → ℕ) (first : ℕ) → 0 < first → Braked (s ∷ line) kept first → Braked (t ∷ line) kept first
 braked-head s t line kept first h b zero p q = omega arith
 braked-head s t line kept first h b (suc i) p q = b (suc i) p q
 
 -- While a step is added last and the numbers from junction 1 on are made anew from the end: after junction k they are right
 -- for the longer line, and up to k still for the shorter one.
-abbrev pub Extended : List Step → Step → (ℕ → ℕ) → ℕ → Type 0
+abbrev pub Extended : List Span → Span → (ℕ → ℕ) → ℕ → Type 0
 Extended line s kept k = ((i : ℕ) → 0 < i → i ≤ k → kept i ≡ brake (drop i line)) × Braked (line ++ (s ∷ [])) kept (k + 1)
 
-module _ (line : List Step) (s : Step) (kept : ℕ → ℕ) where
+module _ (line : List Span) (s : Span) (kept : ℕ → ℕ) where
   longer : length (line ++ (s ∷ [])) ≡ length line + 1
   longer = length-append line (s ∷ [])
 
@@ -98,7 +97,7 @@ module _ (line : List Step) (s : Step) (kept : ℕ → ℕ) where
   pub extended-end : (k : ℕ) → k < 1 → Extended line s kept k → Braked (line ++ (s ∷ [])) kept 1
   extended-end k h x i p = x .1 i (omega arith)
 
-module _ (committed : ℕ) (line : List Step) (kept : ℕ → ℕ) (h : CanBrake committed line) where
+module _ (committed : ℕ) (line : List Span) (kept : ℕ → ℕ) (h : CanBrake committed line) where
   -- The forward pass begins with the committed squared speed at junction 0.
   pub planned-first : kept 0 ≡ committed → Planned committed line kept 0
   planned-first e i p =
@@ -116,5 +115,5 @@ module _ (committed : ℕ) (line : List Step) (kept : ℕ → ℕ) (h : CanBrake
   ]
 
 -- At the end a list of n + 1 numbers is the plan.
-pub planned-all : (committed : ℕ) (line : List Step) (list : List ℕ) → length list ≡ length line + 1 → Planned committed line (numberAt list) (length line) → list ≡ planOf committed line
+pub planned-all : (committed : ℕ) (line : List Span) (list : List ℕ) → length list ≡ length line + 1 → Planned committed line (numberAt list) (length line) → list ≡ planOf committed line
 planned-all committed line list e a = ext-getD 0 list (planOf committed line) (e ∙ sym (plan-length committed line)) (λ i p. a i (omega arith))

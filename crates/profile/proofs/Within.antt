@@ -1,24 +1,23 @@
 -- How far the plan moves when the caps move, and how much of a line decides its backward pass. From the laws of the passes.
--- Assumes nothing.
 use mathlib.Core.Path.{_≡_}
-use mathlib.Core.List.{List, [], _∷_, _++_}
+use mathlib.Core.List.{List, _∷_, _++_}
 use Prim.Native.Nat.{ℕ, zero, suc, _+_, _-_, _≤_, _<_, min}
 use native.Mathlib.Numerals.{add-one}
 use native.Mathlib.Omega.{arith}
 use lib.ListN.{length, drop}
-use Rattle.profile.specs.Line.{Step, capAt, reachAt, totalReach, numberAt}
+use Rattle.profile.specs.Line.{Span, capAt, reachAt, totalReach, numberAt}
 use Rattle.profile.specs.Passes.{brake, CanBrake, planOf}
 use Rattle.profile.proofs.Brake.{down, brake-drop, brake-end, brake-longer}
 use Rattle.profile.proofs.Plan.{plan-first, plan-next}
 
 -- Two lines of as many blocks: at the inner junctions the caps of the first are greater by at most d, and no reach is greater.
-pub record Within (d : ℕ) (one two : List Step) : Type 0 where
+pub record Within (d : ℕ) (one two : List Span) : Type 0 where
   pub blocks : length one ≡ length two
   pub caps : (k : ℕ) → 0 < k → k < length one → capAt one k ≤ capAt two k + d
   pub reaches : (k : ℕ) → k < length one → reachAt one k ≤ reachAt two k
 
 -- Then the backward pass at an inner junction is greater by at most d,
-pub within-brake : (d : ℕ) (one two : List Step) → Within d one two → (k : ℕ) → 0 < k → k ≤ length one → brake (drop k one) ≤ brake (drop k two) + d
+pub within-brake : (d : ℕ) (one two : List Span) → Within d one two → (k : ℕ) → 0 < k → k ≤ length one → brake (drop k one) ≤ brake (drop k two) + d
 within-brake d one two w k p i =
     down (λ j. 0 < j → brake (drop j one) ≤ brake (drop j two) + d) (length one)
     (λ r. omega (arith, brake-end one (length one) (omega arith)))
@@ -26,7 +25,7 @@ within-brake d one two w k p i =
     k i p
 
 -- and so is the plan at every junction. With d = 0: lower caps give no higher plan.
-pub within-plan : (d committed : ℕ) (one two : List Step) → Within d one two → CanBrake committed one → CanBrake committed two
+pub within-plan : (d committed : ℕ) (one two : List Span) → Within d one two → CanBrake committed one → CanBrake committed two
     → (k : ℕ) → k ≤ length one → numberAt (planOf committed one) k ≤ numberAt (planOf committed two) k + d
 within-plan d committed one two w g h zero i = omega (arith, plan-first committed one g, plan-first committed two h)
 within-plan d committed one two w g h (suc k) i =
@@ -41,12 +40,12 @@ within-plan d committed one two w g h (suc k) i =
     ))
 
 -- Blocks after a line raise its backward pass only above the reaches of its own blocks.
-brake-front : (speed : ℕ) (line more : List Step) → speed ≤ totalReach line → min speed (brake (line ++ more)) ≤ brake line
+brake-front : (speed : ℕ) (line more : List Span) → speed ≤ totalReach line → min speed (brake (line ++ more)) ≤ brake line
 unfolding brake totalReach
 brake-front speed [] more h = omega arith
 brake-front speed (s ∷ line) more h = omega (arith, brake-front (speed - s .reach) line more (omega arith))
 
 -- Where the reaches of a line's blocks total at least its first cap, blocks after it leave its backward pass as it is.
-pub brake-enough : (s : Step) (line more : List Step) → s .cap ≤ totalReach (s ∷ line) → brake ((s ∷ line) ++ more) ≡ brake (s ∷ line)
+pub brake-enough : (s : Span) (line more : List Span) → s .cap ≤ totalReach (s ∷ line) → brake ((s ∷ line) ++ more) ≡ brake (s ∷ line)
 unfolding brake
 brake-enough s line more h = omega (arith, brake-front (s .cap) (s ∷ line) more h, brake-longer (s ∷ line) more)

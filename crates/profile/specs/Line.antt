@@ -1,34 +1,34 @@
 -- Lawful and highest profiles of a line of blocks, in the words of document 01, "Plan, give out, ramp".
--- Speeds, caps and reaches are squared speeds, in (µm/s)². Assumes nothing.
+-- Speeds, caps and reaches are squared speeds, in (µm/s)².
 use mathlib.Core.Path.{_≡_}
-use mathlib.Core.List.{List, [], _∷_}
+use mathlib.Core.List.{List, _∷_}
 use Prim.Native.Nat.{ℕ, _+_, _≤_, _<_}
 use lib.ListN.{length, getD}
 
 -- What a profile knows of one block: the junction cap where the block begins, and the block's reach.
 -- The cap of a line's first step, at junction 0, is never read.
-pub record Step : Type 0 where
+pub record Span : Type 0 where
   pub cap : ℕ
   pub reach : ℕ
 
 -- What is read past a line's end.
-abbrev pub noStep : Step
-noStep = record { cap = 0; reach = 0 }
+abbrev pub noSpan : Span
+noSpan = record { cap = 0; reach = 0 }
 
 -- Block k of a line, block 0 the first: it lies between the junctions k and k + 1.
-abbrev pub stepAt : List Step → ℕ → Step
-stepAt line k = getD line k noStep
+abbrev pub spanAt : List Span → ℕ → Span
+spanAt line k = getD line k noSpan
 
 -- The junction cap at junction k.
-abbrev pub capAt : List Step → ℕ → ℕ
-capAt line k = stepAt line k .cap
+abbrev pub capAt : List Span → ℕ → ℕ
+capAt line k = spanAt line k .cap
 
 -- The reach of block k.
-abbrev pub reachAt : List Step → ℕ → ℕ
-reachAt line k = stepAt line k .reach
+abbrev pub reachAt : List Span → ℕ → ℕ
+reachAt line k = spanAt line k .reach
 
 -- The sum of the reaches of a line's blocks.
-unfoldable pub totalReach : List Step → ℕ
+unfoldable pub totalReach : List Span → ℕ
 totalReach [] = 0
 totalReach (s ∷ line) = s .reach + totalReach line
 
@@ -37,7 +37,7 @@ abbrev pub numberAt : List ℕ → ℕ → ℕ
 numberAt profile k = getD profile k 0
 
 -- Document 01's lawful profile of a line of n blocks, from the committed squared speed.
-pub record Lawful (committed : ℕ) (line : List Step) (profile : List ℕ) : Type 0 where
+pub record Lawful (committed : ℕ) (line : List Span) (profile : List ℕ) : Type 0 where
   -- n + 1 whole numbers
   pub sized : length profile ≡ length line + 1
   -- the committed squared speed at junction 0
@@ -51,6 +51,6 @@ pub record Lawful (committed : ℕ) (line : List Step) (profile : List ℕ) : Ty
   pub falls : (k : ℕ) → k < length line → numberAt profile k ≤ numberAt profile (k + 1) + reachAt line k
 
 -- Document 01's plan: a lawful profile that none of the same line and committed squared speed exceeds anywhere.
-pub record Highest (committed : ℕ) (line : List Step) (profile : List ℕ) : Type 0 where
+pub record Highest (committed : ℕ) (line : List Span) (profile : List ℕ) : Type 0 where
   pub lawful : Lawful committed line profile
   pub above : (other : List ℕ) → Lawful committed line other → (k : ℕ) → k ≤ length line → numberAt other k ≤ numberAt profile k

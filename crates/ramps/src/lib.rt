@@ -36,7 +36,7 @@ fn is_sized(n: Numbers, entry: u64, exit: u64) -> bool
 
 // The ramp between the entry and exit that a plan has at a block's ends, (µm/s)²; zeros for speeds that no plan has.
 // This is the one door to a ramp, for the two crates that take both speeds from a plan of their own: `planner` and
-// `tapelist`. A crate that does not list `ramps` in crates.txt cannot name this function, so it cannot make a ramp; that no
+// `listing`. A crate that does not list `ramps` in crates.txt cannot name this function, so it cannot make a ramp; that no
 // other crate lists it is tested (tests/run). The functions of the planner, of the tape's listing and for C take no speed.
 // The language has no narrower door: a function is seen by its own crate alone or by every crate that lists its crate.
 pub fn ramp_between(n: Numbers, entry: u64, exit: u64) -> Ramp

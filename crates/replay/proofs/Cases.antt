@@ -1,6 +1,6 @@
--- Worked examples of the definitions, which compute: the bytes were written apart from them. Assumes nothing.
+-- Worked examples of the definitions, which compute: the bytes were written apart from them.
 use mathlib.Core.Path.{_≡_, refl}
-use mathlib.Core.List.{List, [], _∷_, _++_}
+use mathlib.Core.List.{List, _∷_, _++_}
 use Prim.Native.Nat.{ℕ}
 use lib.IntN.{pos, negsuc}
 use lib.ListN.{replicate}
@@ -13,7 +13,7 @@ use Rattle.machine.specs.Checks.{limitsRefusal, limitsWithin}
 use Rattle.line.specs.Answers.{refused}
 use Rattle.line.specs.Blocks as line
 use Rattle.tape.specs.Tape.{limitsAt, zeroBits}
-use Rattle.tape.specs.Display.{limitsFault}
+use Rattle.tape.specs.Answers.{limitsFault}
 use Rattle.replay.specs.Trace.{blockOf, callOf, callsFrom, traceCalls, traceRefusal}
 use Rattle.replay.specs.Rows.{rowOf, rowsOf}
 use Rattle.replay.specs.Replays.{replayRefusal}

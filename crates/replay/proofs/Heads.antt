@@ -1,20 +1,20 @@
--- The numbers that a trace's checks come to, by what the code tests. From the definitions. Assumes nothing.
+-- The numbers that a trace's checks come to, by what the code tests. From the definitions.
 use mathlib.Core.Path.{_≡_, refl, sym, ap, _∙_}
-use mathlib.Core.Bool.{Bool, true, false, _||_, _&&_}
+use mathlib.Core.Bool.{Bool, true, false, _&&_, cond}
 use mathlib.Core.List.{List}
 use Prim.Native.Nat.{ℕ, _-_, _*_, _%_, _≤_, _<_}
 use native.Mathlib.Omega.{arith}
 use borrow.Author.Tests.{lt-ltb, le-ltb, ltb-false, eq-eqb, ne-eqb}
 use lib.Dec.{lit<, ltb, eqb}
 use lib.ListN.{length}
-use Rattle.machine.specs.Checks.{pick, refusalNumber, limitsRefusal}
+use Rattle.machine.specs.Checks.{limitsRefusal}
 use Rattle.machine.specs.declared.Limits.{Limits}
-use Rattle.machine.specs.declared.Refusal.{Refusal}
-use Rattle.machine.specs.declared.Refusal.the-variants as why
-use Rattle.machine.proofs.AnswerLaws.{refusal-above}
+use Rattle.display.specs.declared.Refusal.{Refusal}
+use Rattle.display.specs.declared.Refusal.the-variants as why
+use Rattle.display.specs.Display.{refusalNumber, given, refused}
+use Rattle.display.proofs.Answers.{refusal-above, then-first, then-second, then-zero, not-picked, given-is, refused-is}
+use Rattle.tape.specs.Answers.{limitsFault}
 use Rattle.tape.specs.Tape.{limitsBytes, limitsAt}
-use Rattle.tape.specs.Display.{given, refused, limitsFault}
-use Rattle.tape.proofs.Answers.{then-first, then-second, then-zero, not-picked, given-is, refused-is}
 use Rattle.tape.proofs.Checks.{limits-faultless}
 use Rattle.replay.specs.Trace.{callBytes, callsIn, traceCalls, raggedTrace, traceRefusal, readTrace}
 use Rattle.replay.specs.Rows.{rowSize}
@@ -75,13 +75,13 @@ module _ (trace answers plan : List ℕ) where
   -- by the length of a list
   pub answers-refused : traceRefusal trace ≡ 0 → (length answers ≡ rowSize * callsIn trace → ⊥) → Replays trace answers plan (Refused why.List) answers plan
   unfolding replayRefusal
-  answers-refused e h = refused-by why.List (then-second e (ap (λ (t : Bool). pick (t && eqb (length plan) planSize) 0 11) (ne-eqb (length answers) (rowSize * callsIn trace) h)))
+  answers-refused e h = refused-by why.List (then-second e (ap (λ (t : Bool). cond (t && eqb (length plan) planSize) 0 11) (ne-eqb (length answers) (rowSize * callsIn trace) h)))
 
   pub plan-refused : traceRefusal trace ≡ 0 → length answers ≡ rowSize * callsIn trace → (length plan ≡ planSize → ⊥) → Replays trace answers plan (Refused why.List) answers plan
   unfolding replayRefusal
   plan-refused e a h =
       refused-by why.List
-      (then-second e (λ i. pick (eq-eqb (length answers) (rowSize * callsIn trace) a i && ne-eqb (length plan) planSize h i) 0 11))
+      (then-second e (λ i. cond (eq-eqb (length answers) (rowSize * callsIn trace) a i && ne-eqb (length plan) planSize h i) 0 11))
 
   -- run
   pub trace-run : {answers′ plan′ : List ℕ} (told : ℕ) → traceRefusal trace ≡ 0 → length answers ≡ rowSize * callsIn trace → length plan ≡ planSize
@@ -89,7 +89,7 @@ module _ (trace answers plan : List ℕ) where
   unfolding replayRefusal
   trace-run told e a p d =
       record {
-        number = sym (then-second e (λ i. pick (eq-eqb (length answers) (rowSize * callsIn trace) a i && eq-eqb (length plan) planSize p i) 0 11));
+        number = sym (then-second e (λ i. cond (eq-eqb (length answers) (rowSize * callsIn trace) a i && eq-eqb (length plan) planSize p i) 0 11));
         run = λ z. d;
         refused = λ h. absurd (omega arith);
       }

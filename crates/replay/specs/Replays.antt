@@ -1,17 +1,16 @@
 -- What running a trace promises: demand 3 of its list of calls. Nothing here names what a planner keeps.
 use mathlib.Core.Path.{_≡_}
 use mathlib.Core.List.{List}
-use mathlib.Core.Bool.{_&&_}
+use mathlib.Core.Bool.{_&&_, cond}
 use Prim.Native.Nat.{ℕ, _+_, _*_, _<_}
 use lib.Dec.{eqb}
 use lib.ListN.{length, take, drop}
-use Rattle.machine.specs.Checks.{pick, refusalNumber}
+use Rattle.display.specs.Display.{refusalNumber, _then_}
 use Rattle.machine.specs.declared.Limits.{Limits}
 use Rattle.line.specs.Answers.{Answer, accepted}
 use Rattle.line.specs.Blocks.{mostHeld, Call}
 use Rattle.line.specs.Demand.{Demand3}
 use Rattle.tape.specs.Tape.{limitsAt}
-use Rattle.tape.specs.Display.{_then_}
 use Rattle.replay.specs.Trace.{callsIn, traceCalls, traceRefusal}
 use Rattle.replay.specs.Rows.{rowSize, rowsOf}
 use Rattle.replay.specs.declared.Replayed.{Replayed}
@@ -23,16 +22,16 @@ planSize = mostHeld + 1
 
 -- 11 where a lent list has not the length that the trace wants, else 0
 abbrev pub listsRefusal : List ℕ → (answers plan : ℕ) → ℕ
-listsRefusal trace answers plan = pick (eqb answers (rowSize * callsIn trace) && eqb plan planSize) 0 11
+listsRefusal trace answers plan = cond (eqb answers (rowSize * callsIn trace) && eqb plan planSize) 0 11
 
 -- 9, then 1, then 11
 unfoldable pub replayRefusal : List ℕ → (answers plan : ℕ) → ℕ
 replayRefusal trace answers plan = traceRefusal trace then listsRefusal trace answers plan
 
 -- the number on the display, 0 where the trace was run, and the number told
-abbrev pub replayedNumber : Replayed → ℕ
-replayedNumber (Done told) = 0
-replayedNumber (Refused why) = refusalNumber why
+abbrev pub replayedMeans : Replayed → ℕ
+replayedMeans (Done told) = 0
+replayedMeans (Refused why) = refusalNumber why
 
 abbrev pub toldIn : Replayed → ℕ
 toldIn (Done told) = told
@@ -53,6 +52,6 @@ pub record Unchanged (answers plan answers′ plan′ : List ℕ) : Type 0 where
 
 -- A trace that is run, or refused.
 pub record Replays (trace answers plan : List ℕ) (r : Replayed) (answers′ plan′ : List ℕ) : Type 0 where
-  pub number : replayedNumber r ≡ replayRefusal trace (length answers) (length plan)
-  pub run : replayedNumber r ≡ 0 → Demanded (limitsAt trace) (traceCalls trace) (toldIn r) answers′ plan plan′
-  pub refused : 0 < replayedNumber r → Unchanged answers plan answers′ plan′
+  pub number : replayedMeans r ≡ replayRefusal trace (length answers) (length plan)
+  pub run : replayedMeans r ≡ 0 → Demanded (limitsAt trace) (traceCalls trace) (toldIn r) answers′ plan plan′
+  pub refused : 0 < replayedMeans r → Unchanged answers plan answers′ plan′

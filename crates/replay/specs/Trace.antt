@@ -1,17 +1,17 @@
--- A trace: the limits as on tape, then 28 bytes a call, seven 32-bit words, most significant byte first. Assumes nothing.
+-- A trace: the limits as on tape, then 28 bytes a call, seven 32-bit words, most significant byte first.
 use Prim.Native.Nat.{ℕ, zero, suc, _+_, _-_, _*_, _/_, _%_}
-use mathlib.Core.Bool.{_||_, not}
-use mathlib.Core.List.{List, [], _∷_}
+use mathlib.Core.Bool.{not, cond}
+use mathlib.Core.List.{List, _∷_}
 use lib.Dec.{ltb, eqb}
 use lib.ListN.{length, take, drop}
 use Rattle.fields.specs.Fields.{fieldOf}
 use Rattle.fields.specs.Signed.{signedOf}
-use Rattle.machine.specs.Checks.{pick}
+use Rattle.display.specs.Display.{Outcome, given, refused, byNumber, _then_}
+use Rattle.tape.specs.Answers.{limitsFault}
 use Rattle.machine.specs.declared.Block.{Block}
 use Rattle.machine.specs.declared.Limits.{Limits}
 use Rattle.line.specs.Blocks as line
 use Rattle.tape.specs.Tape.{limitsBytes, limitsAt}
-use Rattle.tape.specs.Display.{Answer, given, refused, byNumber, _then_, limitsFault}
 
 -- bytes of a call, and bits of a word
 abbrev pub callBytes : ℕ
@@ -72,12 +72,12 @@ traceCalls trace = wholeCalls (drop limitsBytes trace)
 
 -- 9 where a trace is under 24 bytes or its rest no multiple of 28, else 0
 abbrev pub raggedTrace : List ℕ → ℕ
-raggedTrace trace = pick (ltb (length trace) limitsBytes || not (eqb ((length trace - limitsBytes) % callBytes) 0)) 9 0
+raggedTrace trace = cond (ltb (length trace) limitsBytes || not (eqb ((length trace - limitsBytes) % callBytes) 0)) 9 0
 
 -- what is wrong in the trace itself: 9, then 1
 unfoldable pub traceRefusal : List ℕ → ℕ
 traceRefusal trace = raggedTrace trace then limitsFault trace
 
 -- what reading the head of a trace answers: the limits, or the number
-abbrev pub readTrace : List ℕ → Answer ℕ Limits
+abbrev pub readTrace : List ℕ → Outcome ℕ Limits
 readTrace trace = byNumber (traceRefusal trace) (given (limitsAt trace)) (refused (traceRefusal trace))

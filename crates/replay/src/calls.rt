@@ -5,12 +5,12 @@ ghost use Rattle.line.specs.Blocks as blocks;
 ghost use Rattle.replay.specs.Trace.{blockOf, callBytes, callOf, wordOf};
 ghost use Rattle.replay.specs.Rows.{noneGiven, rowFrom, rowSize};
 ghost use Rattle.replay.specs.Runs.{Stepped};
+use display::refusal_number;
 use line::AddAnswer;
 use line::Given;
 use line::TakeAnswer;
 use machine::Block;
 use machine::Ramp;
-use machine::check::refusal_number;
 use planner::NUMBERS;
 
 // Bits of a word.

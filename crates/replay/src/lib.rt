@@ -8,13 +8,13 @@ ghost use Prim.Native.Nat.{_*_, _≤_};
 ghost use lib.ListN.{length};
 ghost use Rattle.machine.specs.Checks.{limitsRefusal};
 ghost use Rattle.tape.specs.Tape.{limitsBytes};
-ghost use Rattle.tape.specs.Display.{limitsAnswer};
+ghost use Rattle.tape.specs.Answers.{limitsMeans};
 ghost use Rattle.replay.specs.Trace.{callsIn, readTrace, traceCalls};
 ghost use Rattle.replay.specs.Rows.{rowSize};
 ghost use Rattle.replay.specs.Replays.{Demanded, Replays, planSize};
 ghost use Rattle.replay.specs.Runs.{Ran};
+use display::Refusal;
 use machine::Limits;
-use machine::Refusal;
 use planner::NUMBERS;
 use tape::LIMITS_BYTES;
 use tape::LimitsRead;
@@ -40,7 +40,7 @@ pub enum Replayed {
 
 // The limits of a trace: 9, then 1.
 fn read_head(trace: &[u8]) -> LimitsRead
-    ensures { λ r. ⌜ limitsAnswer r ≡ readTrace (now (trace .entry)) ⌝ }
+    ensures { λ r. ⌜ limitsMeans r ≡ readTrace (now (trace .entry)) ⌝ }
 {
     if trace.len() < LIMITS_BYTES {
         return LimitsRead::Refused(Refusal::Ragged);

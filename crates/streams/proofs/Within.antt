@@ -1,4 +1,4 @@
--- So many bytes as were read are in the list. Assumes nothing.
+-- So many bytes as were read are in the list.
 use mathlib.Core.List.{List}
 use mathlib.Core.Path.{_≡_, sym, subst}
 use Prim.Native.Nat.{ℕ, _≤_}

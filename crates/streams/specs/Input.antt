@@ -1,4 +1,4 @@
--- What an answer of `read` says, and what holds of all that was read. Assumes nothing.
+-- What an answer of `read` says, and what holds of all that was read.
 use Prim.Native.Nat.{ℕ, _≤_, _<_}
 use mathlib.Core.Bool.{cond}
 use lib.Dec.{eqb}

@@ -1,7 +1,7 @@
--- Worked examples of the definitions, which compute: the bytes were packed apart from them. Assumes nothing.
+-- Worked examples of the definitions, which compute: the bytes were packed apart from them.
 use mathlib.Core.Path.{_≡_, refl}
 use Prim.Native.Nat.{ℕ}
-use mathlib.Core.List.{List, [], _∷_, _++_}
+use mathlib.Core.List.{List, _∷_, _++_}
 use lib.IntN.{pos, negsuc}
 use lib.ListN.{replicate}
 use Rattle.machine.specs.Lists.{limitsFrom}
@@ -10,7 +10,8 @@ use Rattle.fields.specs.Bytes.{numberOf, bytesOf, withBytes}
 use Rattle.fields.specs.Signed.{signedOf, bitsOf}
 use Rattle.machine.specs.Checks.{limitsRefusal, limitsWithin, blockRefusal, greatestMove}
 use Rattle.tape.specs.Tape.{limitsAt, zeroBits, blockNumber, blockAt, blocksFrom, tapeBlocks}
-use Rattle.tape.specs.Display.{given, refused, _at_, limitsFault, limitsReadRefusal, readLimits, recordReadRefusal, readRecord, recordWriteRefusal, recordWritten, tapeWriteRefusal, tapeWritten, faultFrom, headRefusal, tapeFault, checkTape}
+use Rattle.display.specs.Display.{given, refused, _at_}
+use Rattle.tape.specs.Answers.{limitsFault, limitsReadRefusal, readLimits, recordReadRefusal, readRecord, recordWriteRefusal, recordWritten, tapeWriteRefusal, tapeWritten, faultFrom, headRefusal, tapeFault, checkTape}
 
 -- machine M
 machine : List ℕ

@@ -1,24 +1,26 @@
--- The numbers that readers, writers and the check of a tape's head come to, by what their code tests. From the definitions. Assumes nothing.
+-- The numbers that readers, writers and the check of a tape's head come to, by what their code tests. From the definitions.
 use mathlib.Core.Path.{_≡_, refl, sym, ap, _∙_}
-use mathlib.Core.Bool.{Bool, true, false, _||_, not}
+use mathlib.Core.Bool.{Bool, true, false, not, cond}
 use Prim.Native.Nat.{ℕ, _-_, _%_, _≤_, _<_}
 use native.Mathlib.Omega.{arith}
 use mathlib.Core.List.{List}
 use borrow.Author.Tests.{lt-ltb, le-ltb, ltb-false, eq-eqb, ne-eqb, eqb-true, not-false}
 use lib.Dec.{lit<, ltb, eqb}
 use lib.ListN.{length}
-use Rattle.machine.specs.Checks.{pick, limitsRefusal, blockRefusal}
+use Rattle.machine.specs.Checks.{limitsRefusal, blockRefusal}
 use Rattle.machine.specs.declared.Limits.{Limits}
 use Rattle.machine.specs.declared.Block.{Block}
 use Rattle.tape.specs.Tape.{limitsBytes, limitsAt, zeroBits, recordBytes, blockAt, recordStart, recordsIn}
-use Rattle.tape.specs.Display.{raggedBelow, given, refused, limitsFault, limitsReadRefusal, recordReadRefusal, limitsWriteRefusal, recordWriteRefusal, mostBytes, manyIn, raggedIn, headRefusal, readHead}
-use Rattle.tape.proofs.Answers.{then-first, then-second, then-zero, enough, not-picked, given-is, refused-is}
+use Rattle.tape.specs.Answers.{raggedBelow, limitsFault, limitsReadRefusal, recordReadRefusal, limitsWriteRefusal, recordWriteRefusal, mostBytes, manyIn, raggedIn, headRefusal, readHead}
+use Rattle.display.specs.Display.{given, refused}
+use Rattle.display.proofs.Answers.{then-first, then-second, then-zero, not-picked, given-is, refused-is}
+use Rattle.tape.proofs.Answers.{enough}
 
 -- A number that must be 0, before another: neither is refused.
-pub no-fault : (z r : ℕ) → pick (eqb z 0) r 1 ≡ 0 → (z ≡ 0) × (r ≡ 0)
+pub no-fault : (z r : ℕ) → cond (eqb z 0) r 1 ≡ 0 → (z ≡ 0) × (r ≡ 0)
 no-fault z r e = told (eqb z 0) refl e
   where
-    told : (t : Bool) → eqb z 0 ≡ t → pick t r 1 ≡ 0 → (z ≡ 0) × (r ≡ 0)
+    told : (t : Bool) → eqb z 0 ≡ t → cond t r 1 ≡ 0 → (z ≡ 0) × (r ≡ 0)
     told true p q = (eqb-true z 0 p, q)
     told false p q = absurd (omega arith)
 

@@ -1,4 +1,4 @@
--- A whole tape: its records by their place, and its first fault. From the definitions. Assumes nothing.
+-- A whole tape: its records by their place, and its first fault. From the definitions.
 use mathlib.Core.Path.{_≡_, refl, sym, ap, subst, _∙_}
 use Prim.Native.Nat.{ℕ, zero, suc, _+_, _-_, _≤_, _<_}
 use native.Mathlib.Nat.{add-zero, zero-add, le-of-eq}
@@ -10,8 +10,9 @@ use lib.Seq.{take-all, getD-drop}
 use Rattle.machine.specs.Checks.{blockRefusal}
 use Rattle.machine.specs.declared.Block.{Block}
 use Rattle.tape.specs.Tape.{recordBytes, blockAt, recordStart, recordAt, recordsIn, blocksFrom, tapeBlocks}
-use Rattle.tape.specs.Display.{given, refused, recordReadRefusal, readRecord, Fault, _at_, _else_, faultFrom, headRefusal, tapeFault, tapeRefusal}
-use Rattle.tape.proofs.Answers.{at-zero, above-zero, refused-is}
+use Rattle.display.specs.Display.{given, refused, Fault, _at_, _else_}
+use Rattle.tape.specs.Answers.{recordReadRefusal, readRecord, faultFrom, headRefusal, tapeFault, tapeRefusal}
+use Rattle.display.proofs.Answers.{at-zero, above-zero, refused-is}
 use Rattle.tape.proofs.Checks.{record-long}
 use Rattle.tape.proofs.Trips.{record-taken}
 

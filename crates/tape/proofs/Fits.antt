@@ -1,4 +1,4 @@
--- Limits and blocks that pass their checks fit their fields. From the ranges that the checks allow. Assumes nothing.
+-- Limits and blocks that pass their checks fit their fields. From the ranges that the checks allow.
 use mathlib.Core.Path.{_≡_, refl}
 use mathlib.Core.Bool.{Bool, true, false, _&&_}
 use Prim.Native.Nat.{ℕ, _^_, _≤_, _<_}
@@ -6,9 +6,10 @@ use native.Mathlib.Omega.{arith}
 use borrow.Author.Tests.{leb-true}
 use lib.Dec.{leb}
 use lib.Signed.{mag}
+use Rattle.display.proofs.Answers.{picked}
 use Rattle.fields.specs.Layouts.{InWidths}
 use Rattle.fields.proofs.Signed.{bits-lt, mag-natAbs}
-use Rattle.machine.specs.Checks.{pick, within, axesWithin, limitsWithin, limitsRefusal, blockRefusal}
+use Rattle.machine.specs.Checks.{within, axesWithin, limitsWithin, limitsRefusal, blockRefusal}
 use Rattle.machine.specs.Ranges.{leastAccel, mostAccel, leastSpeed, mostSpeed, leastJump, mostJump, leastChord, mostChord, leastTick, mostTick}
 use Rattle.machine.proofs.Bounds.{in-range, moves-below}
 use Rattle.machine.specs.declared.Axes.{Axes}
@@ -42,15 +43,11 @@ axes-up-to high a e =
     let first = both (within 1 high (a .x)) (within 1 high (a .y)) (last .0) in
     (up-to 1 high (a .x) (first .0), up-to 1 high (a .y) (first .1), up-to 1 high (a .z) (last .1))
 
-not-one : (t : Bool) → pick t 0 1 ≡ 0 → t ≡ true
-not-one true e = refl
-not-one false e = absurd (omega arith)
-
 -- Limits that pass 1.
 pub limits-fit : (l : Limits) → limitsRefusal l ≡ 0 → InWidths limitsLayout (limitsFields l)
 unfolding limitsRefusal limitsWithin
 limits-fit l e =
-    let all = both (axesWithin leastAccel mostAccel (l .accel) && axesWithin leastSpeed mostSpeed (l .speed)) _ (not-one _ e) in
+    let all = both (axesWithin leastAccel mostAccel (l .accel) && axesWithin leastSpeed mostSpeed (l .speed)) _ (picked _ (lit< tt) e) in
     let axes = both (axesWithin leastAccel mostAccel (l .accel)) (axesWithin leastSpeed mostSpeed (l .speed)) (all .0) in
     let rest = both (within leastJump mostJump (l .jump) && within leastChord mostChord (l .chord)) (within leastTick mostTick (l .tick)) (all .1) in
     let jump = both (within leastJump mostJump (l .jump)) (within leastChord mostChord (l .chord)) (rest .0) in

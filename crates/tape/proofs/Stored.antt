@@ -1,4 +1,4 @@
--- A value in bytes, of any layout: written and read, read and written, and what stays. From the laws of `fields`. Assumes nothing.
+-- A value in bytes, of any layout: written and read, read and written, and what stays. From the laws of `fields`.
 use mathlib.Core.Path.{_≡_, refl, sym, ap, _∙_}
 use Prim.Native.Nat.{ℕ, zero, suc, zero-le, _+_, _*_, _%_, _^_, _≤_, _<_}
 use native.Mathlib.Nat.{mod-eq-of-lt, zero-add}
@@ -13,8 +13,10 @@ use Rattle.fields.specs.Bytes.{Bytes, numberOf, bytesOf, withBytes}
 use Rattle.fields.proofs.Layouts.{joined-split}
 use Rattle.fields.proofs.Bytes.{bytes-take, bytes-number, part-lt, length-part, length-with, drop-with}
 use Rattle.fields.proofs.Fields.{split-stored}
-use Rattle.tape.specs.Display.{byNumber, _then_, raggedBelow, Answer, given, refused}
-use Rattle.tape.proofs.Answers.{at-zero, above-zero, then-second, then-zero, not-picked, enough, gives, given-is}
+use Rattle.display.specs.Display.{byNumber, _then_, Outcome, given, refused}
+use Rattle.tape.specs.Answers.{raggedBelow}
+use Rattle.display.proofs.Answers.{at-zero, above-zero, then-second, then-zero, not-picked, gives, given-is}
+use Rattle.tape.proofs.Answers.{enough}
 
 -- A value that stands in fields in the first bytes, read and written in the order of document 01.
 pub record Form (A : Type 0) : Type 0 where
@@ -41,7 +43,7 @@ module _ {A : Type 0} (form : Form A) where
   abbrev pub readNumber : List ℕ → ℕ
   readNumber s = raggedBelow n s then form .fault (values s)
 
-  abbrev pub reading : List ℕ → Answer ℕ A
+  abbrev pub reading : List ℕ → Outcome ℕ A
   reading s = byNumber (readNumber s) (given (form .from (values s))) (refused (readNumber s))
 
   abbrev pub writeNumber : A → List ℕ → ℕ

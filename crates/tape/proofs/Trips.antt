@@ -1,10 +1,9 @@
 -- The limits and a record: written and read, read and written, and what stays. From the laws of a value in bytes (`Stored`), at the two layouts.
--- Assumes nothing.
 use mathlib.Core.Path.{_≡_, refl, sym, ap, _∙_}
 use Prim.Native.Nat.{ℕ, _/_, _%_, _^_, _≤_, _<_}
 use native.Mathlib.Nat.{mod-mod}
 use native.Mathlib.Omega.{arith}
-use mathlib.Core.List.{List, [], _∷_, _++_}
+use mathlib.Core.List.{List, _∷_, _++_}
 use lib.Dec.{eqb}
 use lib.ListN.{length, take, drop, getD, take-append-drop}
 use Rattle.fields.specs.Layouts.{split}
@@ -12,11 +11,13 @@ use Rattle.fields.specs.Bytes.{Bytes}
 use Rattle.fields.specs.Signed.{signedOf, bitsOf}
 use Rattle.fields.proofs.Signed.{signed-bits, bits-signed}
 use Rattle.machine.specs.Lists.{limitsFrom}
-use Rattle.machine.specs.Checks.{pick, limitsRefusal, blockRefusal}
+use Rattle.machine.specs.Checks.{limitsRefusal, blockRefusal}
 use Rattle.machine.specs.declared.Limits.{Limits}
 use Rattle.machine.specs.declared.Block.{Block}
 use Rattle.tape.specs.Tape.{limitsBytes, limitsLayout, limitsFields, limitsNumber, limitsAt, zeroBits, recordBytes, moveBits, recordLayout, blockFields, blockFrom, blockNumber, blockAt}
-use Rattle.tape.specs.Display.{given, limitsFault, limitsReadRefusal, readLimits, recordReadRefusal, readRecord, limitsWriteRefusal, limitsWritten, recordWriteRefusal, recordWritten}
+use mathlib.Core.Bool.{cond}
+use Rattle.display.specs.Display.{given}
+use Rattle.tape.specs.Answers.{limitsFault, limitsReadRefusal, readLimits, recordReadRefusal, readRecord, limitsWriteRefusal, limitsWritten, recordWriteRefusal, recordWritten}
 use Rattle.tape.proofs.Checks.{no-fault}
 use Rattle.tape.proofs.Fits.{block-fits, moves-fit, limits-fit}
 use Rattle.tape.proofs.Stored.{Form, Lossless, refused-same, beyond-same, length-same, taken, passes, later, written-read, read-written}
@@ -115,7 +116,7 @@ limits-form =
       fieldsOf = limitsFields;
       from = limitsFrom;
       refusal = limitsRefusal;
-      fault = λ (vs : List ℕ). pick (eqb (getD vs 9 0) 0) (limitsRefusal (limitsFrom vs)) 1;
+      fault = λ (vs : List ℕ). cond (eqb (getD vs 9 0) 0) (limitsRefusal (limitsFrom vs)) 1;
     }
 
 limits-lossless : Lossless limits-form

@@ -1,7 +1,7 @@
--- A record written in its place on a tape: its 16 bytes are stored, and all else stays. From the laws of bytes and of one record. Assumes nothing.
+-- A record written in its place on a tape: its 16 bytes are stored, and all else stays. From the laws of bytes and of one record.
 use mathlib.Core.Logic.{_⊎_, inl, inr}
 use mathlib.Core.Path.{_≡_, refl, sym, ap, subst, _∙_}
-use mathlib.Core.List.{List, [], _∷_, _++_, append-assoc, append-nil}
+use mathlib.Core.List.{List, _∷_, _++_, append-assoc, append-nil}
 use Prim.Native.Nat.{ℕ, zero, suc, _+_, _-_, _*_, _≤_, _<_, min}
 use native.Mathlib.Decide.{ℕ-discrete, decLe}
 use native.Mathlib.Nat.{zero-min, min-zero, suc-min-suc, lt-of-not-le, le-of-eq, eq-zero-or-pos}
@@ -17,10 +17,12 @@ use Rattle.fields.proofs.Bytes.{length-with, take-with, drop-with}
 use Rattle.machine.specs.Lists.{limitsFrom}
 use Rattle.machine.specs.Checks.{blockRefusal}
 use Rattle.machine.specs.declared.Block.{Block}
-use Rattle.machine.specs.declared.Checked.{Checked}
+use Rattle.display.specs.declared.Checked.{Checked}
 use Rattle.tape.specs.Tape.{limitsBytes, limitsLayout, limitsAt, zeroBits, recordBytes, recordLayout, blockFrom, blockNumber, blockAt, recordStart, recordAt, recordsIn, tapeBlocks}
-use Rattle.tape.specs.Display.{limitsFault, recordWriteRefusal, recordWritten, tapeWriteRefusal, tapeWritten, Wrote, Fault, headRefusal, tapeRefusal}
-use Rattle.tape.proofs.Answers.{at-zero, then-second, then-zero, enough, not-picked}
+use Rattle.tape.specs.Answers.{limitsFault, recordWriteRefusal, recordWritten, tapeWriteRefusal, tapeWritten, Wrote, headRefusal, tapeRefusal}
+use Rattle.display.specs.Display.{Fault}
+use Rattle.display.proofs.Answers.{at-zero, then-second, then-zero, not-picked}
+use Rattle.tape.proofs.Answers.{enough}
 use Rattle.tape.proofs.Faults.{length-blocks, getD-blocks, tape-passed, tape-faultless}
 use Rattle.tape.proofs.Trips.{record-taken, record-written-read, record-refused}
 

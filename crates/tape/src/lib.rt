@@ -4,9 +4,9 @@ pub mod limits;
 pub mod records;
 pub mod whole;
 
+use display::Refusal;
 use machine::Block;
 use machine::Limits;
-use machine::Refusal;
 
 // Bytes of the limits, and of each record behind them.
 pub const LIMITS_BYTES: usize = 24;

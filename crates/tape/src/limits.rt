@@ -7,13 +7,13 @@ ghost use Rattle.fields.specs.Bytes.{withBytes};
 ghost use Rattle.fields.specs.Fields.{Bits};
 ghost use Rattle.machine.specs.Numbers.{AxesBelow};
 ghost use Rattle.tape.specs.Tape.{limitsAt, limitsBytes, limitsFields, limitsLayout, limitsNumber};
-ghost use Rattle.tape.specs.Display.{limitsAnswer, limitsWriteRefusal, limitsWritten, readLimits, Wrote};
+ghost use Rattle.tape.specs.Answers.{limitsMeans, limitsWriteRefusal, limitsWritten, readLimits, Wrote};
 use crate::LIMITS_BYTES;
 use crate::LimitsRead;
+use display::Checked;
+use display::Refusal;
 use machine::Axes;
-use machine::Checked;
 use machine::Limits;
-use machine::Refusal;
 use machine::check::check_limits;
 
 // The limits that the first 24 bytes say, unchecked, whatever the zero bits are. A field is named by its first bit and its width.
@@ -79,7 +79,7 @@ fn store_limits(l: Limits, out: &mut [u8])
 
 // Reads the limits that the bytes begin with; later bytes play no part. 9 comes first, then 1.
 pub fn read_limits(s: &[u8]) -> LimitsRead
-    ensures { λ r. ⌜ limitsAnswer r ≡ readLimits (now (s .entry)) ⌝ }
+    ensures { λ r. ⌜ limitsMeans r ≡ readLimits (now (s .entry)) ⌝ }
 {
     if s.len() < LIMITS_BYTES {
         return LimitsRead::Refused(Refusal::Ragged);

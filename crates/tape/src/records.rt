@@ -6,13 +6,13 @@ ghost use Rattle.fields.specs.Layouts.{InWidths};
 ghost use Rattle.fields.specs.Bytes.{withBytes};
 ghost use Rattle.fields.specs.Fields.{Bits};
 ghost use Rattle.tape.specs.Tape.{blockAt, blockFields, blockNumber, recordBytes, recordLayout, recordStart};
-ghost use Rattle.tape.specs.Display.{readRecord, recordAnswer, recordWriteRefusal, recordWritten, tapeWriteRefusal, tapeWritten, Wrote};
+ghost use Rattle.tape.specs.Answers.{readRecord, recordMeans, recordWriteRefusal, recordWritten, tapeWriteRefusal, tapeWritten, Wrote};
 use crate::LIMITS_BYTES;
 use crate::RECORD_BYTES;
 use crate::RecordRead;
+use display::Checked;
+use display::Refusal;
 use machine::Block;
-use machine::Checked;
-use machine::Refusal;
 use machine::check::check_block;
 
 // Bits of a move.
@@ -75,7 +75,7 @@ fn store_record(b: Block, out: &mut [u8])
 
 // Reads the record that the bytes begin with; later bytes play no part. 9 comes first, then 2 to 6.
 pub fn read_record(s: &[u8]) -> RecordRead
-    ensures { λ r. ⌜ recordAnswer r ≡ readRecord (now (s .entry)) ⌝ }
+    ensures { λ r. ⌜ recordMeans r ≡ readRecord (now (s .entry)) ⌝ }
 {
     if s.len() < RECORD_BYTES {
         return RecordRead::Refused(Refusal::Ragged);

@@ -3,7 +3,7 @@ ghost use mathlib.Core.Path.{_≡_};
 ghost use Prim.Native.Nat.{_≤_};
 ghost use lib.ListN.{length};
 ghost use Rattle.tape.specs.Tape.{limitsBytes};
-ghost use Rattle.tape.specs.Display.{checkRecords, checkTape, limitsAnswer, readHead, tapeAnswer};
+ghost use Rattle.tape.specs.Answers.{checkRecords, checkTape, limitsMeans, readHead, tapeMeans};
 use crate::LIMITS_BYTES;
 use crate::LimitsRead;
 use crate::MOST_BYTES;
@@ -12,11 +12,11 @@ use crate::RecordRead;
 use crate::TapeCheck;
 use crate::limits::read_limits;
 use crate::records::read_record;
-use machine::Refusal;
+use display::Refusal;
 
 // The limits of a whole tape, by the checks that come before its records: 10, 9, 1.
 pub fn read_head(s: &[u8]) -> LimitsRead
-    ensures { λ r. ⌜ limitsAnswer r ≡ readHead (now (s .entry)) ⌝ }
+    ensures { λ r. ⌜ limitsMeans r ≡ readHead (now (s .entry)) ⌝ }
 {
     if MOST_BYTES < s.len() {
         return LimitsRead::Refused(Refusal::Many);
@@ -33,7 +33,7 @@ pub fn read_head(s: &[u8]) -> LimitsRead
 // Checks each record in turn. Each lies whole in the tape, so that reading one is never refused by 9.
 fn check_records(s: &[u8]) -> TapeCheck
     requires { ⌜ limitsBytes ≤ length (now s) ⌝ }
-    ensures { λ r. ⌜ tapeAnswer r ≡ checkRecords (now (s .entry)) ⌝ }
+    ensures { λ r. ⌜ tapeMeans r ≡ checkRecords (now (s .entry)) ⌝ }
 {
     let n = (s.len() - LIMITS_BYTES) / RECORD_BYTES;
     let mut k: usize = 0;
@@ -49,7 +49,7 @@ fn check_records(s: &[u8]) -> TapeCheck
 
 // Checks a whole tape: 10, 9, 1, then each record in turn.
 pub fn check_tape(s: &[u8]) -> TapeCheck
-    ensures { λ r. ⌜ tapeAnswer r ≡ checkTape (now (s .entry)) ⌝ }
+    ensures { λ r. ⌜ tapeMeans r ≡ checkTape (now (s .entry)) ⌝ }
 {
     match read_head(s) {
         LimitsRead::Read(_) => check_records(s),

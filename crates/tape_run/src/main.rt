@@ -9,14 +9,14 @@
 // tape, where k is the seventh value, and any other checks a whole tape. Where bytes are written,
 // the line ends with all lent bytes as they then are.
 ghost use Prim.Native.Nat.{_<_};
+use display::Checked;
+use display::Refusal;
+use display::refusal_number;
 use libc::STDIN_FILENO;
 use libc::STDOUT_FILENO;
 use machine::Axes;
 use machine::Block;
-use machine::Checked;
 use machine::Limits;
-use machine::Refusal;
-use machine::check::refusal_number;
 use tape::LimitsRead;
 use tape::RecordRead;
 use tape::TapeCheck;

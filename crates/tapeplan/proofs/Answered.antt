@@ -1,4 +1,4 @@
--- What planning a whole tape answers, from its faults. From the laws of a tape's answers and faults. Assumes nothing.
+-- What planning a whole tape answers, from its faults. From the laws of a tape's answers and faults.
 use mathlib.Core.Path.{_≡_, sym, ap, _∙_}
 use mathlib.Core.List.{List}
 use Prim.Native.Nat.{ℕ, _+_, _<_, zero-le}
@@ -8,14 +8,14 @@ use lib.Dec.{eqb}
 use lib.ListN.{length}
 use Rattle.profile.specs.Passes.{planOf}
 use Rattle.profile.proofs.Highest.{plan-highest}
-use Rattle.machine.specs.Checks.{pick, refusalNumber}
-use Rattle.machine.specs.declared.Refusal.{Refusal}
-use Rattle.machine.specs.declared.Refusal.the-variants as why
+use mathlib.Core.Bool.{cond}
+use Rattle.display.specs.Display.{refusalNumber, Fault, _at_}
+use Rattle.tape.specs.Answers.{tapeFault}
+use Rattle.display.proofs.Answers.{refusal-above, at-zero, above-zero}
+use Rattle.display.specs.declared.Refusal.{Refusal}
+use Rattle.display.specs.declared.Refusal.the-variants as why
 use Rattle.tape.specs.Tape.{recordsIn}
-use Rattle.tape.specs.Display.{Fault, _at_, tapeFault}
-use Rattle.machine.proofs.AnswerLaws.{refusal-above}
-use Rattle.tape.proofs.Answers.{at-zero, above-zero}
-use Rattle.tapeplan.specs.Planned.{tapeSteps, planFault, PlannedTape}
+use Rattle.tapeplan.specs.Planned.{tapeSpans, planFault, PlannedTape}
 use Rattle.tapeplan.specs.declared.TapePlanned.the-variants.{Planned, Refused}
 
 module _ (s before : List ℕ) where
@@ -23,7 +23,7 @@ module _ (s before : List ℕ) where
   refused-by : (r : Refusal) (p : ℕ) → planFault s (length before) ≡ refusalNumber r at p → PlannedTape s before before (Refused r p)
   refused-by r p e =
       let above : 0 < planFault s (length before) .number = rw e (refusal-above r) in
-      record { fault = sym e; list = sym (above-zero (planOf 0 (tapeSteps s)) before above); highest = λ z. absurd (omega arith) }
+      record { fault = sym e; list = sym (above-zero (planOf 0 (tapeSpans s)) before above); highest = λ z. absurd (omega arith) }
 
   -- by the tape's own checks
   pub tape-refused : (r : Refusal) (p : ℕ) → tapeFault s ≡ refusalNumber r at p → PlannedTape s before before (Refused r p)
@@ -33,20 +33,20 @@ module _ (s before : List ℕ) where
       refused-by r p (above-zero _ (tapeFault s) above ∙ e)
 
   -- what is left to check of a tape that passes
-  list-fault : tapeFault s .number ≡ 0 → planFault s (length before) ≡ pick (eqb (length before) (recordsIn s + 1)) 0 11 at 0
+  list-fault : tapeFault s .number ≡ 0 → planFault s (length before) ≡ cond (eqb (length before) (recordsIn s + 1)) 0 11 at 0
   unfolding planFault
   list-fault e = at-zero _ (tapeFault s) e
 
   -- by the list's length
   pub list-refused : tapeFault s .number ≡ 0 → (length before ≡ recordsIn s + 1 → ⊥) → PlannedTape s before before (Refused why.List 0)
-  list-refused e h = refused-by why.List 0 (list-fault e ∙ ap (λ t. pick t 0 11 at 0) (ne-eqb (length before) (recordsIn s + 1) h))
+  list-refused e h = refused-by why.List 0 (list-fault e ∙ ap (λ t. cond t 0 11 at 0) (ne-eqb (length before) (recordsIn s + 1) h))
 
   -- accepted, with the plan in the list
-  pub tape-planned : {after : List ℕ} → tapeFault s .number ≡ 0 → length before ≡ recordsIn s + 1 → after ≡ planOf 0 (tapeSteps s) → PlannedTape s before after Planned
+  pub tape-planned : {after : List ℕ} → tapeFault s .number ≡ 0 → length before ≡ recordsIn s + 1 → after ≡ planOf 0 (tapeSpans s) → PlannedTape s before after Planned
   tape-planned e h f =
-      let none : planFault s (length before) ≡ 0 at 0 = list-fault e ∙ ap (λ t. pick t 0 11 at 0) (eq-eqb (length before) (recordsIn s + 1) h) in
+      let none : planFault s (length before) ≡ 0 at 0 = list-fault e ∙ ap (λ t. cond t 0 11 at 0) (eq-eqb (length before) (recordsIn s + 1) h) in
       record {
         fault = sym none;
-        list = f ∙ sym (at-zero (planOf 0 (tapeSteps s)) before (ap (λ (g : Fault). g .number) none));
-        highest = λ z. rw f (plan-highest 0 (tapeSteps s) zero-le);
+        list = f ∙ sym (at-zero (planOf 0 (tapeSpans s)) before (ap (λ (g : Fault). g .number) none));
+        highest = λ z. rw f (plan-highest 0 (tapeSpans s) zero-le);
       }

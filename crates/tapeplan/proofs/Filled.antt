@@ -1,13 +1,13 @@
--- Lists that are filled from the front, and the line that two of them make. From the laws of lists. Assumes nothing.
+-- Lists that are filled from the front, and the line that two of them make. From the laws of lists.
 use mathlib.Core.Path.{_≡_, refl, _∙_}
-use mathlib.Core.List.{List, [], _∷_}
+use mathlib.Core.List.{List, _∷_}
 use Prim.Native.Nat.{ℕ, suc, _+_, _≤_, _<_, zero-le, suc-le-suc}
 use native.Mathlib.Nat.{not-suc-le-zero, le-of-suc-le-suc}
 use native.Mathlib.Decide.{decLt}
 use native.Mathlib.Omega.{arith}
 use lib.ListN.{length, take, set}
 use lib.Seq.{getD-set-same, getD-set-other}
-use Rattle.profile.specs.Line.{Step, capAt, reachAt, numberAt}
+use Rattle.profile.specs.Line.{Span, capAt, reachAt, numberAt}
 use Rattle.tapeplan.specs.Lent.{lineOf}
 
 -- the first k numbers are f's
@@ -23,7 +23,7 @@ filled-more list k v f h e g i j = go (decLt i k)
     go (no b) = let same : i ≡ k = omega arith in rw same (getD-set-same list k v 0 h ∙ e)
 
 -- the line that the first numbers of two lists make, where they are a line's caps and reaches
-pub filled-line : (line : List Step) (caps reaches : List ℕ) → length line ≤ length caps → length line ≤ length reaches
+pub filled-line : (line : List Span) (caps reaches : List ℕ) → length line ≤ length caps → length line ≤ length reaches
     → Filled caps (length line) (capAt line) → Filled reaches (length line) (reachAt line) → lineOf (take (length line) caps) (take (length line) reaches) ≡ line
 unfolding lineOf
 filled-line [] caps reaches h g f e = refl

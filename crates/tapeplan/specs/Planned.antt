@@ -4,38 +4,39 @@ use mathlib.Core.List.{List}
 use Prim.Native.Nat.{ℕ, _+_}
 use lib.Dec.{eqb}
 use lib.ListN.{length}
-use Rattle.profile.specs.Line.{Step, Highest}
+use Rattle.profile.specs.Line.{Span, Highest}
 use Rattle.profile.specs.Passes.{planOf}
-use Rattle.machine.specs.Checks.{pick, refusalNumber}
-use Rattle.machine.specs.Line.{stepsOf}
+use mathlib.Core.Bool.{cond}
+use Rattle.display.specs.Display.{refusalNumber, Fault, byNumber, _at_, _else_}
+use Rattle.tape.specs.Answers.{tapeFault}
+use Rattle.machine.specs.Line.{spansOf}
 use Rattle.tape.specs.Tape.{recordsIn, tapeLimits, tapeBlocks}
-use Rattle.tape.specs.Display.{Fault, byNumber, _at_, _else_, tapeFault}
 use Rattle.tapeplan.specs.declared.TapePlanned.{TapePlanned}
 use Rattle.tapeplan.specs.declared.TapePlanned.the-variants.{Planned, Refused}
 
 -- the tape's blocks as a profile sees them
-abbrev pub tapeSteps : List ℕ → List Step
-tapeSteps s = stepsOf (tapeLimits s) (tapeBlocks s)
+abbrev pub tapeSpans : List ℕ → List Span
+tapeSpans s = spansOf (tapeLimits s) (tapeBlocks s)
 
 -- the tape's checks, then 11 where the lent list is not exactly one longer than the blocks
 unfoldable pub planFault : (s : List ℕ) (lent : ℕ) → Fault
-planFault s lent = tapeFault s else (pick (eqb lent (recordsIn s + 1)) 0 11 at 0)
+planFault s lent = tapeFault s else (cond (eqb lent (recordsIn s + 1)) 0 11 at 0)
 
 -- number and place of each answer
-abbrev pub plannedFault : TapePlanned → Fault
-plannedFault Planned = 0 at 0
-plannedFault (Refused why place) = refusalNumber why at place
+abbrev pub plannedMeans : TapePlanned → Fault
+plannedMeans Planned = 0 at 0
+plannedMeans (Refused why place) = refusalNumber why at place
 
 -- the answer's number and place, and the list: the plan from rest to rest, which no lawful profile is above anywhere, or
 -- what it held
 pub record PlannedTape (s before after : List ℕ) (r : TapePlanned) : Type 0 where
-  pub fault : plannedFault r ≡ planFault s (length before)
-  pub list : after ≡ byNumber (planFault s (length before) .number) (planOf 0 (tapeSteps s)) before
-  pub highest : planFault s (length before) .number ≡ 0 → Highest 0 (tapeSteps s) after
+  pub fault : plannedMeans r ≡ planFault s (length before)
+  pub list : after ≡ byNumber (planFault s (length before) .number) (planOf 0 (tapeSpans s)) before
+  pub highest : planFault s (length before) .number ≡ 0 → Highest 0 (tapeSpans s) after
 
 -- Demand 3 of an accepted tape, from rest to rest, in a list one longer than its blocks: the tape is planned, the list is the plan of its
 -- blocks, so a lawful profile exists, the list is one, and no lawful profile is above it anywhere
 pub record TapeDemand3 (s after : List ℕ) (r : TapePlanned) : Type 0 where
   pub answered : r ≡ Planned
-  pub plan : after ≡ planOf 0 (tapeSteps s)
-  pub highest : Highest 0 (tapeSteps s) after
+  pub plan : after ≡ planOf 0 (tapeSpans s)
+  pub highest : Highest 0 (tapeSpans s) after

@@ -3,14 +3,14 @@ use mathlib.Core.Path.{_≡_}
 use mathlib.Core.List.{List}
 use Prim.Native.Nat.{ℕ}
 use lib.ListN.{take}
-use Rattle.machine.specs.Line.{stepsOf}
+use Rattle.machine.specs.Line.{spansOf}
 use Rattle.machine.specs.declared.Limits.{Limits}
 use Rattle.tape.specs.Tape.{recordsIn, tapeBlocks}
-use Rattle.tape.specs.Display.{faultFrom, tapeAnswer, checkRecords}
+use Rattle.tape.specs.Answers.{faultFrom, tapeMeans, checkRecords}
 use Rattle.tape.specs.declared.TapeCheck.{TapeCheck}
 use Rattle.tapeplan.specs.Lent.{lineOf}
 
 -- the records are checked in turn; where all pass, the lists begin with the caps and the reaches of the blocks
 pub record Surveyed (l : Limits) (s caps reaches : List ℕ) (r : TapeCheck) : Type 0 where
-  pub answer : tapeAnswer r ≡ checkRecords s
-  pub line : faultFrom 1 (tapeBlocks s) .number ≡ 0 → lineOf (take (recordsIn s) caps) (take (recordsIn s) reaches) ≡ stepsOf l (tapeBlocks s)
+  pub answer : tapeMeans r ≡ checkRecords s
+  pub line : faultFrom 1 (tapeBlocks s) .number ≡ 0 → lineOf (take (recordsIn s) caps) (take (recordsIn s) reaches) ≡ spansOf l (tapeBlocks s)

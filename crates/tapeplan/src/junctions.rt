@@ -2,7 +2,8 @@
 ghost use mathlib.Core.Path.{_≡_};
 ghost use Prim.Native.Nat.{_<_};
 ghost use lib.Dec.{eqb};
-ghost use Rattle.machine.specs.Checks.{blockRefusal, pick};
+ghost use mathlib.Core.Bool.{cond};
+ghost use Rattle.machine.specs.Checks.{blockRefusal};
 ghost use Rattle.machine.specs.Numbers.{LimitsBelow, junctionCap, numbersOf};
 use arith::whole::smaller;
 use machine::Block;
@@ -14,7 +15,7 @@ use machine::corner::under_corner;
 // between the block before and this one, from their numbers.
 pub fn cap_of(k: usize, l: Limits, before: Block, known: Numbers, b: Block, n: Numbers) -> u64
     requires { ⌜ LimitsBelow l × (blockRefusal b ≡ 0) × (n ≡ numbersOf l b) × (0 < k → (blockRefusal before ≡ 0) × (known ≡ numbersOf l before)) ⌝ }
-    ensures { λ r. ⌜ r ≡ pick (eqb k 0) 0 (junctionCap l before b) ⌝ }
+    ensures { λ r. ⌜ r ≡ cond (eqb k 0) 0 (junctionCap l before b) ⌝ }
 {
     if k == 0 {
         return 0;

@@ -4,7 +4,7 @@ mod passes;
 mod survey;
 pub mod whole;
 
-use machine::Refusal;
+use display::Refusal;
 
 // Most blocks on a tape.
 pub const MOST_BLOCKS: usize = 2_048;

@@ -1,14 +1,14 @@
 // The plan of a whole tape.
 ghost use mathlib.Core.Path.{_≡_};
 ghost use Rattle.tape.specs.Tape.{limitsAt};
-ghost use Rattle.tape.specs.Display.{headRefusal};
+ghost use Rattle.tape.specs.Answers.{headRefusal};
 ghost use Rattle.tapeplan.specs.Planned.{PlannedTape};
 use crate::MOST_BLOCKS;
 use crate::TapePlanned;
 use crate::passes::plan_into;
 use crate::survey::survey;
+use display::Refusal;
 use machine::Limits;
-use machine::Refusal;
 use tape::LimitsRead;
 use tape::TapeCheck;
 use tape::whole::read_head;

@@ -1,4 +1,4 @@
--- `arguments::decide` meets its contract: its tests are the definition's. Assumes nothing.
+-- `arguments::decide` meets its contract: its tests are the definition's.
 use mathlib.Core.Path.{_≡_}
 use mathlib.Core.Bool.{true, false}
 use borrow.Author.Tests.{lt-ltb, le-ltb, eq-eqb, ne-eqb, not-true, not-false}

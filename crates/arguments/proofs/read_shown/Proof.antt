@@ -1,4 +1,4 @@
--- `arguments::read_shown` meets its contract: showing changes no length. Assumes nothing.
+-- `arguments::read_shown` meets its contract: showing changes no length.
 use native.Mathlib.Omega.{arith}
 use Rattle.io.proofs.Counting.{counts}
 use borrow.Author.Needs.{needs}

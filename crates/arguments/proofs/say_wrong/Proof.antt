@@ -4,7 +4,7 @@ use Prim.Native.Nat.{zero-le}
 use native.Mathlib.Omega.{arith}
 use lib.ListN.{length, take}
 use lib.Seq.{length-take-le}
-use Rattle.listing.proofs.Store.{within, length-front}
+use Rattle.text.proofs.Store.{within, length-front}
 use borrow.Author.Needs.{needs}
 use Rattle.arguments.proofs.say_wrong.Statement.{statement}
 use Rattle.arguments.proofs.say_wrong.Tie as tie

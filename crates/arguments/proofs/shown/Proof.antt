@@ -1,4 +1,4 @@
--- `arguments::shown` meets its contract: its tests are the definition's. Assumes nothing.
+-- `arguments::shown` meets its contract: its tests are the definition's.
 use borrow.Author.Tests.{lt-ltb, le-ltb, eq-eqb, ne-eqb}
 use Rattle.arguments.specs.Words.{shownAs}
 use Rattle.arguments.proofs.shown.Statement.{statement}

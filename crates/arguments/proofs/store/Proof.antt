@@ -1,5 +1,5 @@
 -- `arguments::store` meets its contract: the part has room, from `stored-with-room`.
-use Rattle.listing.proofs.Store.{stored-with-room}
+use Rattle.text.proofs.Store.{stored-with-room}
 use borrow.Author.Needs.{needs}
 use Rattle.arguments.proofs.store.Statement.{statement}
 use Rattle.arguments.proofs.store.Tie as tie

@@ -1,6 +1,6 @@
 -- `arguments::store_wrong` meets its contract: the parts one behind the other, from `stored-next`.
 use native.Mathlib.Omega.{arith}
-use Rattle.listing.proofs.Store.{stored-next}
+use Rattle.text.proofs.Store.{stored-next}
 use Rattle.arguments.specs.Words.{matter, advice, wrongLine}
 use borrow.Author.Needs.{needs}
 use Rattle.arguments.proofs.store_wrong.Statement.{statement}

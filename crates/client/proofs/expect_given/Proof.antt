@@ -1,4 +1,4 @@
--- `client::expect_given` meets its contract: each check is a part of what is required. Assumes nothing.
+-- `client::expect_given` meets its contract: each check is a part of what is required.
 use borrow.Author.Needs.{needs}
 use borrow.Author.Tests.{eq-eqb}
 use Rattle.client.proofs.expect_given.Statement.{statement}
@@ -31,8 +31,5 @@ expect-requires-8 c κs = eq-eqb _ _ (c .before .before .before .before .before 
 expect-requires-9 : tie.Need-expect-requires-9
 expect-requires-9 c κs = eq-eqb _ _ (c .before .before .before .before .before .before .before .before .before .before .before .before .before .before .before .before .before .before .before .pre .down-is)
 
-returns : tie.Need-returns
-returns c = search needs
-
 pub expect-given-spec : {M : Type 1} → statement M
-expect-given-spec = tie.close (tie.spec expect-requires expect-requires-2 expect-requires-3 expect-requires-4 expect-requires-5 expect-requires-6 expect-requires-7 expect-requires-8 expect-requires-9 returns)
+expect-given-spec = tie.close (tie.spec expect-requires expect-requires-2 expect-requires-3 expect-requires-4 expect-requires-5 expect-requires-6 expect-requires-7 expect-requires-8 expect-requires-9 (λ c. search needs))

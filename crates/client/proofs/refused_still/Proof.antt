@@ -1,4 +1,4 @@
--- `client::refused_still` meets its contract: the line refuses the block by 2 and stays as it was. Assumes nothing.
+-- `client::refused_still` meets its contract: the line refuses the block by 2 and stays as it was.
 use mathlib.Core.Path.{_≡_, sym, ap, _∙_}
 use borrow.Author.Needs.{needs}
 use borrow.Author.Tests.{eq-eqb}
@@ -9,24 +9,6 @@ use Rattle.client.proofs.Lines.{ahead, still, held-one, still-number, s
 use Rattle.client.proofs.refused_still.Statement.{statement}
 use Rattle.client.proofs.refused_still.Tie as tie
 
-machine-m-requires : tie.Need-machine-m-requires
-machine-m-requires c κs = search needs
-
-fresh-requires : tie.Need-fresh-requires
-fresh-requires c κs = search needs
-
-block-requires : tie.Need-block-requires
-block-requires c κs = search needs
-
-add-requires : tie.Need-add-requires
-add-requires c κs = search needs
-
-block-requires-2 : tie.Need-block-requires-2
-block-requires-2 c κs = search needs
-
-add-requires-2 : tie.Need-add-requires-2
-add-requires-2 c κs = search needs
-
 -- what the second add answers, and what it leaves
 said : (c : tie.After-add2) → addMeans (c .add2 .result .answer) ≡ lineAnswer (lineOfOne ahead) (add still)
 said c =
@@ -35,25 +17,13 @@ said c =
     let held = held-one ahead still (made .before .machine-m .ensures) (one .before .block .ensures) (made .fresh .ensures) (one .add .ensures) in
     rw (c .before .block2 .ensures) at (c .add2 .ensures .line (lineOfOne ahead) held) .0
 
-enum-told : tie.Need-enum-told
-enum-told c = search needs
-
 expect-requires : tie.Need-expect-requires
 expect-requires c κs = absurd (still-refused (sym (ap addMeans (c .enum-told .given .1)) ∙ said (c .before .before)))
-
-enum-known-answer : tie.Need-enum-known-answer
-enum-known-answer c = search needs
-
-refusal-number-requires : tie.Need-refusal-number-requires
-refusal-number-requires c κs = search needs
 
 expect-requires-2 : tie.Need-expect-requires-2
 expect-requires-2 c κs =
     let k = c .before .before in
     eq-eqb _ _ (c .refusal-number .ensures ∙ still-number _ (sym (ap addMeans (k .answer .given .1)) ∙ said (k .before .before)))
-
-told-requires : tie.Need-told-requires
-told-requires c κs = search needs
 
 expect-requires-3 : tie.Need-expect-requires-3
 expect-requires-3 c κs =
@@ -64,8 +34,5 @@ expect-requires-3 c κs =
     let left = rw (two .before .block2 .ensures) at (two .add2 .ensures .line (lineOfOne ahead) held) in
     eq-eqb _ _ (c .told .ensures .line (lineAfter (lineOfOne ahead) (add still)) (left .1) ∙ still-held)
 
-returns : tie.Need-returns
-returns c = search needs
-
 pub refused-still-spec : {M : Type 1} → statement M
-refused-still-spec = tie.close (tie.spec machine-m-requires fresh-requires block-requires add-requires block-requires-2 add-requires-2 enum-told expect-requires enum-known-answer refusal-number-requires expect-requires-2 told-requires expect-requires-3 returns)
+refused-still-spec = tie.close (tie.spec (λ c κs. search needs) (λ c κs. search needs) (λ c κs. search needs) (λ c κs. search needs) (λ c κs. search needs) (λ c κs. search needs) (λ c. search needs) expect-requires (λ c. search needs) (λ c κs. search needs) expect-requires-2 (λ c κs. search needs) expect-requires-3 (λ c. search needs))

@@ -1,4 +1,4 @@
--- `client::right_angle` meets its contract: the two takes answer as the line of the pair says. Assumes nothing.
+-- `client::right_angle` meets its contract: the two takes answer as the line of the pair says.
 use mathlib.Core.Path.{_≡_, sym, ap, _∙_}
 use borrow.Author.Needs.{needs}
 use Rattle.line.specs.Answers.{takeMeans}
@@ -7,30 +7,6 @@ use Rattle.client.specs.Work.{lineOfTwo}
 use Rattle.client.proofs.Lines.{east, north, held-two, gives-first, gives-second, first-given, second-given}
 use Rattle.client.proofs.right_angle.Statement.{statement}
 use Rattle.client.proofs.right_angle.Tie as tie
-
-machine-m-requires : tie.Need-machine-m-requires
-machine-m-requires c κs = search needs
-
-fresh-requires : tie.Need-fresh-requires
-fresh-requires c κs = search needs
-
-block-requires : tie.Need-block-requires
-block-requires c κs = search needs
-
-add-requires : tie.Need-add-requires
-add-requires c κs = search needs
-
-block-requires-2 : tie.Need-block-requires-2
-block-requires-2 c κs = search needs
-
-add-requires-2 : tie.Need-add-requires-2
-add-requires-2 c κs = search needs
-
-take-requires : tie.Need-take-requires
-take-requires c κs = search needs
-
-take-requires-2 : tie.Need-take-requires-2
-take-requires-2 c κs = search needs
 
 -- what the two takes answer
 said : (c : tie.After-take2) →
@@ -45,39 +21,21 @@ said c =
     let first = t .take .ensures .line (lineOfTwo east north) held in
     (first .0, c .take2 .ensures .line (lineAfter (lineOfTwo east north) take) (first .1) .0)
 
-enum-known-before : tie.Need-enum-known-before
-enum-known-before c = search needs
-
 expect-given-requires : tie.Need-expect-given-requires
 expect-given-requires c κs =
     let k = c .before in
     gives-first (k .before2 .given .0 .0) (sym (ap takeMeans (k .before2 .given .1)) ∙ said (k .before .before) .0)
 
-enum-told : tie.Need-enum-told
-enum-told c = search needs
-
 expect-requires : tie.Need-expect-requires
 expect-requires c κs = absurd (first-given _ (sym (ap takeMeans (c .enum-told .given .1)) ∙ said (c .before .before) .0))
-
-enum-known-after : tie.Need-enum-known-after
-enum-known-after c = search needs
 
 expect-given-requires-2 : tie.Need-expect-given-requires-2
 expect-given-requires-2 c κs =
     let k = c .before in
     gives-second (k .after .given .0 .0) (sym (ap takeMeans (k .after .given .1)) ∙ said (k .before .before .before) .1)
 
-enum-told-2 : tie.Need-enum-told-2
-enum-told-2 c = search needs
-
 expect-requires-2 : tie.Need-expect-requires-2
 expect-requires-2 c κs = absurd (second-given _ (sym (ap takeMeans (c .enum-told2 .given .1)) ∙ said (c .before .before .before) .1))
 
-returns : tie.Need-returns
-returns c = search needs
-
-returns-2 : tie.Need-returns-2
-returns-2 c = search needs
-
 pub right-angle-spec : {M : Type 1} → statement M
-right-angle-spec = tie.close (tie.spec machine-m-requires fresh-requires block-requires add-requires block-requires-2 add-requires-2 take-requires take-requires-2 enum-known-before expect-given-requires enum-told expect-requires enum-known-after expect-given-requires-2 enum-told-2 expect-requires-2 returns returns-2)
+right-angle-spec = tie.close (tie.spec (λ c κs. search needs) (λ c κs. search needs) (λ c κs. search needs) (λ c κs. search needs) (λ c κs. search needs) (λ c κs. search needs) (λ c κs. search needs) (λ c κs. search needs) (λ c. search needs) expect-given-requires (λ c. search needs) expect-requires (λ c. search needs) expect-given-requires-2 (λ c. search needs) expect-requires-2 (λ c. search needs) (λ c. search needs))

@@ -1,5 +1,5 @@
--- `client::two_blocks` meets its contract: what each check expects follows from the planner's promises by the line. Assumes nothing.
-use mathlib.Core.List.{List, [], _∷_}
+-- `client::two_blocks` meets its contract: what each check expects follows from the planner's promises by the line.
+use mathlib.Core.List.{List, _∷_}
 use mathlib.Core.Path.{_≡_, refl, ap, _∙_}
 use Prim.Native.Nat.{ℕ}
 use borrow.Author.Needs.{needs}
@@ -12,30 +12,6 @@ use Rattle.client.specs.Work.{blockOf, lineOfTwo}
 use Rattle.client.proofs.Lines.{held-two, straight-plan}
 use Rattle.client.proofs.two_blocks.Statement.{statement}
 use Rattle.client.proofs.two_blocks.Tie as tie
-
-machine-m-requires : tie.Need-machine-m-requires
-machine-m-requires c κs = search needs
-
-fresh-requires : tie.Need-fresh-requires
-fresh-requires c κs = search needs
-
-block-requires : tie.Need-block-requires
-block-requires c κs = search needs
-
-add-requires : tie.Need-add-requires
-add-requires c κs = search needs
-
-block-requires-2 : tie.Need-block-requires-2
-block-requires-2 c κs = search needs
-
-add-requires-2 : tie.Need-add-requires-2
-add-requires-2 c κs = search needs
-
-slice-aggregate-shown : tie.Need-slice-aggregate-shown
-slice-aggregate-shown c = search needs
-
-shown-requires : tie.Need-shown-requires
-shown-requires c κs = search needs
 
 -- the list that is shown
 listed : (c : tie.After-shown) → c .shown .last .1 .0 ≡ 0 ∷ 400_000_000 ∷ 0 ∷ []
@@ -50,26 +26,14 @@ listed c =
     .fits refl .1
     ∙ straight-plan
 
-array-read-expect : tie.Need-array-read-expect
-array-read-expect c = search needs
-
 expect-requires : tie.Need-expect-requires
 expect-requires c κs = eq-eqb _ _ (ap (λ (l : List ℕ). getD l 0 0) (listed (c .before)))
-
-array-read-expect-2 : tie.Need-array-read-expect-2
-array-read-expect-2 c = search needs
 
 expect-requires-2 : tie.Need-expect-requires-2
 expect-requires-2 c κs = eq-eqb _ _ (ap (λ (l : List ℕ). getD l 1 0) (listed (c .before .before)))
 
-array-read-expect-3 : tie.Need-array-read-expect-3
-array-read-expect-3 c = search needs
-
 expect-requires-3 : tie.Need-expect-requires-3
 expect-requires-3 c κs = eq-eqb _ _ (ap (λ (l : List ℕ). getD l 2 0) (listed (c .before .before .before)))
 
-returns : tie.Need-returns
-returns c = search needs
-
 pub two-blocks-spec : {M : Type 1} → statement M
-two-blocks-spec = tie.close (tie.spec machine-m-requires fresh-requires block-requires add-requires block-requires-2 add-requires-2 slice-aggregate-shown shown-requires array-read-expect expect-requires array-read-expect-2 expect-requires-2 array-read-expect-3 expect-requires-3 returns)
+two-blocks-spec = tie.close (tie.spec (λ c κs. search needs) (λ c κs. search needs) (λ c κs. search needs) (λ c κs. search needs) (λ c κs. search needs) (λ c κs. search needs) (λ c. search needs) (λ c κs. search needs) (λ c. search needs) expect-requires (λ c. search needs) expect-requires-2 (λ c. search needs) expect-requires-3 (λ c. search needs))

@@ -1,4 +1,4 @@
--- `client::was_refused` meets its contract: a refused add leaves every number, by the planner's promise alone. Assumes nothing.
+-- `client::was_refused` meets its contract: a refused add leaves every number, by the planner's promise alone.
 use mathlib.Core.Path.{_≡_, ap}
 use Prim.Native.Nat.{ℕ}
 use native.Mathlib.Omega.{arith}

@@ -9,9 +9,6 @@ use borrow.Author.Needs.{needs}
 use Rattle.fields.proofs.negative.Statement.{statement}
 use Rattle.fields.proofs.negative.Tie as tie
 
-cast-result : tie.Need-cast-result
-cast-result c = search needs
-
 flipped : (c : tie.Start) → negsuc 0 -ℤ toZ w64 (c .args .n) ≡ negsuc (c .args .n)
 flipped c = rw (toZ-pos w64 (c .pre)) (flip-natural (c .args .n))
 
@@ -22,4 +19,4 @@ returns : tie.Need-returns
 returns c = rw (flipped c) (toZ-ofZ {w = w64} (record { sfits = c .pre }))
 
 pub negative-spec : {M : Type 1} → statement M
-negative-spec = tie.close (tie.spec cast-result sub-result returns)
+negative-spec = tie.close (tie.spec (λ c. search needs) sub-result returns)

@@ -7,13 +7,10 @@ use borrow.Author.Needs.{needs}
 use Rattle.fields.proofs.pow2.Statement.{statement}
 use Rattle.fields.proofs.pow2.Tie as tie
 
-shl-result : tie.Need-shl-result
-shl-result c = search needs
-
 returns : tie.Need-returns
 returns c =
     let e : 1 * 2 ^ (c .args .k) % 2 ^ 64 ≡ 2 ^ (c .args .k) = rw one-mul (mod-eq-of-lt (pow-lt (c .pre))) in
     record { is = e; positive = rw e (pow-pos (c .args .k)) }
 
 pub pow2-spec : {M : Type 1} → statement M
-pow2-spec = tie.close (tie.spec shl-result returns)
+pow2-spec = tie.close (tie.spec (λ c. search needs) returns)

@@ -5,21 +5,6 @@ use borrow.Author.Needs.{needs}
 use Rattle.fields.proofs.read_word.Statement.{statement}
 use Rattle.fields.proofs.read_word.Tie as tie
 
-load-requires : tie.Need-load-requires
-load-requires c κs = search needs
-
-mul-result : tie.Need-mul-result
-mul-result c = search needs
-
-add-load : tie.Need-add-load
-add-load c = search needs
-
-load-requires-2 : tie.Need-load-requires-2
-load-requires-2 c κs = search needs
-
-add-result : tie.Need-add-result
-add-result c = search needs
-
 returns : tie.Need-returns
 returns c =
     let a = c .before .before .before .args in
@@ -30,4 +15,4 @@ returns c =
 
 pub read-word-spec : {M : Type 1} → statement M
 read-word-spec =
-    tie.close (tie.spec load-requires mul-result add-load load-requires-2 add-result returns)
+    tie.close (tie.spec (λ c κs. search needs) (λ c. search needs) (λ c. search needs) (λ c κs. search needs) (λ c. search needs) returns)

@@ -25,32 +25,14 @@ module _ (c : tie.After-pow22) where
       with-fits n (c .before .before .args .low) (c .before .before .args .width) (c .before .before .args .v) (c .before .pow2 .ensures .is)
       (c .pow22 .ensures .is) (c .before .before .pre .1 .1) (c .before .before .fits .n .fits)
 
-pow2-requires : tie.Need-pow2-requires
-pow2-requires c κs = search needs
-
-pow2-requires-2 : tie.Need-pow2-requires-2
-pow2-requires-2 c κs = search needs
-
-div-result : tie.Need-div-result
-div-result c = search needs
-
-div-result-2 : tie.Need-div-result-2
-div-result-2 c = search needs
-
 mul-result : tie.Need-mul-result
 mul-result c = record { fits = omega (arith, fits c) }
-
-rem-result : tie.Need-rem-result
-rem-result c = search needs
 
 add-result : tie.Need-add-result
 add-result c = record { fits = omega (arith, fits c) }
 
 mul-result-2 : tie.Need-mul-result-2
 mul-result-2 c = record { fits = omega (arith, fits c) }
-
-rem-result-2 : tie.Need-rem-result-2
-rem-result-2 c = search needs
 
 add-result-2 : tie.Need-add-result-2
 add-result-2 c = record { fits = omega (arith, fits c) }
@@ -62,14 +44,14 @@ pub replaced-spec : {M : Type 1} → statement M
 replaced-spec =
     tie.close
     (tie.spec
-    pow2-requires
-    pow2-requires-2
-    div-result
-    div-result-2
+    (λ c κs. search needs)
+    (λ c κs. search needs)
+    (λ c. search needs)
+    (λ c. search needs)
     mul-result
-    rem-result
+    (λ c. search needs)
     add-result
     mul-result-2
-    rem-result-2
+    (λ c. search needs)
     add-result-2
     returns)

@@ -8,15 +8,6 @@ use borrow.Author.Needs.{needs}
 use Rattle.fields.proofs.signed_word.Statement.{statement}
 use Rattle.fields.proofs.signed_word.Tie as tie
 
-cast-result : tie.Need-cast-result
-cast-result c = search needs
-
-sub-negative : tie.Need-sub-negative
-sub-negative c = search needs
-
-negative-requires : tie.Need-negative-requires
-negative-requires c κs = search needs
-
 returns : tie.Need-returns
 returns c = toZ-pos w64 (omega arith) ∙ sym (word-low _ (omega arith))
 
@@ -28,4 +19,4 @@ returns-2 c =
 
 pub signed-word-spec : {M : Type 1} → statement M
 signed-word-spec =
-    tie.close (tie.spec cast-result sub-negative negative-requires returns returns-2)
+    tie.close (tie.spec (λ c. search needs) (λ c. search needs) (λ c κs. search needs) returns returns-2)

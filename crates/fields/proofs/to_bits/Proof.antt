@@ -23,26 +23,11 @@ module _ (c : tie.Else1) where
   natural : T (nonNeg z)
   natural = natural-is z (ap (λ (x : ℤ). ltZ x (pos 0)) (sym read) ∙ c .if1 .left)
 
-pow2-requires : tie.Need-pow2-requires
-pow2-requires c κs = search needs
-
-sub-result : tie.Need-sub-result
-sub-result c = search needs
-
-complement-requires : tie.Need-complement-requires
-complement-requires c κs = search needs
-
-rem-result : tie.Need-rem-result
-rem-result c = search needs
-
 sub-result-2 : tie.Need-sub-result-2
 sub-result-2 c = omega (arith, mod-lt (c .complement .result) (c .before .before .pow2 .ensures .positive))
 
 cast-result : tie.Need-cast-result
 cast-result c = rw (read c) (natural c, fits-natAbs tt (c .before .before .fits .z))
-
-rem-result-2 : tie.Need-rem-result-2
-rem-result-2 c = search needs
 
 returns : tie.Need-returns
 returns c =
@@ -58,12 +43,12 @@ pub to-bits-spec : {M : Type 1} → statement M
 to-bits-spec =
     tie.close
     (tie.spec
-    pow2-requires
-    sub-result
-    complement-requires
-    rem-result
+    (λ c κs. search needs)
+    (λ c. search needs)
+    (λ c κs. search needs)
+    (λ c. search needs)
     sub-result-2
     cast-result
-    rem-result-2
+    (λ c. search needs)
     returns
     returns-2)

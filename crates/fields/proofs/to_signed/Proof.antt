@@ -15,20 +15,11 @@ module _ (c : tie.After-pow2) where
   bounds : (c .before .args .bits % c .pow2 .result < c .pow2 .result) × (c .pow2 .result ≤ 2 ^ 63)
   bounds = (mod-lt (c .before .args .bits) (c .pow2 .ensures .positive), rw (c .pow2 .ensures .is) (pow-mono {i = c .before .args .width} {j = 63} (omega arith)))
 
-pow2-requires : tie.Need-pow2-requires
-pow2-requires c κs = search needs
-
-rem-low : tie.Need-rem-low
-rem-low c = search needs
-
 add-if1 : tie.Need-add-if1
 add-if1 c = record { fits = omega (arith, bounds c) }
 
 cast-result : tie.Need-cast-result
 cast-result c = record { sfits = omega (arith, bounds (c .before)) }
-
-sub-negative : tie.Need-sub-negative
-sub-negative c = search needs
 
 sub-negative-2 : tie.Need-sub-negative-2
 sub-negative-2 c = omega (arith, bounds (c .before))
@@ -46,11 +37,11 @@ pub to-signed-spec : {M : Type 1} → statement M
 to-signed-spec =
     tie.close
     (tie.spec
-    pow2-requires
-    rem-low
+    (λ c κs. search needs)
+    (λ c. search needs)
     add-if1
     cast-result
-    sub-negative
+    (λ c. search needs)
     sub-negative-2
     negative-requires
     returns

@@ -9,30 +9,6 @@ use borrow.Author.Needs.{needs}
 use Rattle.fields.proofs.write_field.Statement.{statement}
 use Rattle.fields.proofs.write_field.Tie as tie
 
-add-end : tie.Need-add-end
-add-end c = search needs
-
-bytes-for-requires : tie.Need-bytes-for-requires
-bytes-for-requires c κs = search needs
-
-load-requires : tie.Need-load-requires
-load-requires c κs = search needs
-
-mul-replaced : tie.Need-mul-replaced
-mul-replaced c = search needs
-
-sub-replaced : tie.Need-sub-replaced
-sub-replaced c = search needs
-
-replaced-requires : tie.Need-replaced-requires
-replaced-requires c κs = search needs
-
-store-requires : tie.Need-store-requires
-store-requires c κs = search needs
-
-same-length : tie.Need-same-length
-same-length c = search needs
-
 returns : tie.Need-returns
 returns c =
     let b = c .before .before in
@@ -50,12 +26,12 @@ pub write-field-spec : {M : Type 1} → statement M
 write-field-spec =
     tie.close
     (tie.spec
-    add-end
-    bytes-for-requires
-    load-requires
-    mul-replaced
-    sub-replaced
-    replaced-requires
-    store-requires
-    same-length
+    (λ c. search needs)
+    (λ c κs. search needs)
+    (λ c κs. search needs)
+    (λ c. search needs)
+    (λ c. search needs)
+    (λ c κs. search needs)
+    (λ c κs. search needs)
+    (λ c. search needs)
     returns)

@@ -1,7 +1,7 @@
--- `planlist::list`: each part has room in its text, and at most 16 are written. What they come to is the law `listing-written` of `tapelist`.
+-- `planlist::list`: each part has room in its text, and at most 16 are written. What they come to is the law `listing-written` of `listing`.
 use Prim.Native.Nat.{_-_, zero-le}
-use Rattle.listing.proofs.Store.{within, length-front}
-use Rattle.tapelist.specs.Parts.{mostParts}
+use Rattle.text.proofs.Store.{within, length-front}
+use Rattle.listing.specs.Parts.{mostParts}
 use borrow.Author.Needs.{needs}
 use Rattle.planlist.proofs.list.Statement.{statement}
 use Rattle.planlist.proofs.list.Tie as tie

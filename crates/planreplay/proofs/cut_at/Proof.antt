@@ -7,14 +7,8 @@ use Rattle.planreplay.proofs.cut_at.Tie as tie
 returns : tie.Need-returns
 returns c = rw (eq-eqb _ 0 (c .if1 .taken))
 
-add-result : tie.Need-add-result
-add-result c = search needs
-
-add-result-2 : tie.Need-add-result-2
-add-result-2 c = search needs
-
 returns-2 : tie.Need-returns-2
 returns-2 c = rw (ne-eqb _ 0 (c .if1 .left))
 
 pub cut-at-spec : {M : Type 1} → statement M
-cut-at-spec = tie.close (tie.spec returns add-result add-result-2 returns-2)
+cut-at-spec = tie.close (tie.spec returns (λ c. search needs) (λ c. search needs) returns-2)

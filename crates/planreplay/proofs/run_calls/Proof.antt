@@ -16,23 +16,11 @@ abbrev μ-loop : tie.MeasureT-loop
 loop-holds : tie.Need-loop-holds Inv-loop μ-loop
 loop-holds c = tt
 
-run-chunk-requires : tie.Need-run-chunk-requires Inv-loop μ-loop
-run-chunk-requires c κs = search needs
-
-enum-told : tie.Need-enum-told Inv-loop μ-loop
-enum-told c = search needs
-
 returns : tie.Need-returns Inv-loop μ-loop
 returns c = tt
 
-enum-told-2 : tie.Need-enum-told-2 Inv-loop μ-loop
-enum-told-2 c = search needs
-
 returns-2 : tie.Need-returns-2 Inv-loop μ-loop
 returns-2 c = tt
-
-enum-known-got : tie.Need-enum-known-got Inv-loop μ-loop
-enum-known-got c = search needs
 
 cut-at-requires : tie.Need-cut-at-requires Inv-loop μ-loop
 cut-at-requires c κs =
@@ -42,12 +30,6 @@ cut-at-requires c κs =
 
 returns-3 : tie.Need-returns-3 Inv-loop μ-loop
 returns-3 c = tt
-
-add-calls : tie.Need-add-calls Inv-loop μ-loop
-add-calls c = search needs
-
-loop-less : tie.Need-loop-less Inv-loop μ-loop
-loop-less c = search needs
 
 loop-again : tie.Need-loop-again Inv-loop μ-loop
 loop-again c = tt
@@ -62,15 +44,15 @@ run-calls-spec =
     Inv-loop
     μ-loop
     loop-holds
-    run-chunk-requires
-    enum-told
+    (λ c κs. search needs)
+    (λ c. search needs)
     returns
-    enum-told-2
+    (λ c. search needs)
     returns-2
-    enum-known-got
+    (λ c. search needs)
     cut-at-requires
     returns-3
-    add-calls
-    loop-less
+    (λ c. search needs)
+    (λ c. search needs)
     loop-again
     returns-4)

@@ -1,4 +1,4 @@
--- `ramps::ramp` meets its contract: the peak is neither below the entry nor below the exit. Assumes nothing.
+-- `ramps::ramp` meets its contract: the peak is neither below the entry nor below the exit.
 use mathlib.Core.Path.{ap, _∙_}
 use Prim.Native.Nat.{ℕ, _-_, _*_, _/_}
 use borrow.Author.Needs.{needs}

@@ -1,4 +1,4 @@
--- `ramps::ramp_between` meets its contract: the two tests together are `rampable`. Assumes nothing.
+-- `ramps::ramp_between` meets its contract: the two tests together are `rampable`.
 use mathlib.Core.Path.{_≡_, sym, ap, _∙_}
 use mathlib.Core.Bool.{Bool, true, cond}
 use borrow.Author.Needs.{needs}

@@ -1,9 +1,10 @@
--- `replay::read_head` meets its contract: the tests are the definition's, and the rest is what `read_limits` ensures. Assumes nothing.
+-- `replay::read_head` meets its contract: the tests are the definition's, and the rest is what `read_limits` ensures.
 use mathlib.Core.Path.{sym, _∙_}
-use Rattle.machine.specs.declared.Refusal.the-variants as why
+use Rattle.display.specs.declared.Refusal.the-variants as why
 use Rattle.tape.specs.Tape.{limitsAt}
-use Rattle.tape.specs.Display.{byNumber, given, refused, readLimits}
-use Rattle.tape.proofs.Answers.{refuses-by}
+use Rattle.display.specs.Display.{byNumber, given, refused}
+use Rattle.tape.specs.Answers.{readLimits}
+use Rattle.display.proofs.Answers.{refuses-by}
 use Rattle.tape.proofs.Checks.{limits-long}
 use Rattle.replay.proofs.Heads.{head-short, head-ragged, head-limits}
 use borrow.Author.Needs.{needs}
@@ -13,14 +14,8 @@ use Rattle.replay.proofs.read_head.Tie as tie
 returns : tie.Need-returns
 returns c = refuses-by _ why.Ragged (head-short _ (c .if1 .taken))
 
-sub-if2 : tie.Need-sub-if2
-sub-if2 c = search needs
-
 returns-2 : tie.Need-returns-2
 returns-2 c = refuses-by _ why.Ragged (head-ragged _ (c .before .if1 .left) (c .if2 .taken))
-
-read-limits-requires : tie.Need-read-limits-requires
-read-limits-requires c κs = search needs
 
 returns-3 : tie.Need-returns-3
 unfolding readLimits
@@ -31,4 +26,4 @@ returns-3 c =
     c .read-limits .ensures ∙ (λ i. byNumber (n i) (given (limitsAt s)) (refused (n i)))
 
 pub read-head-spec : {M : Type 1} → statement M
-read-head-spec = tie.close (tie.spec returns sub-if2 returns-2 read-limits-requires returns-3)
+read-head-spec = tie.close (tie.spec returns (λ c. search needs) returns-2 (λ c κs. search needs) returns-3)

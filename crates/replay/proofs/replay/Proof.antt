@@ -1,23 +1,14 @@
--- `replay::replay` meets its contract: the head decides, then the lists' lengths, else the calls are run. Assumes nothing.
+-- `replay::replay` meets its contract: the head decides, then the lists' lengths, else the calls are run.
 use mathlib.Core.Path.{_≡_, sym, ap, _∙_}
 use native.Mathlib.Omega.{arith}
 use Rattle.machine.specs.Checks.{limitsRefusal}
 use Rattle.tape.specs.Tape.{limitsAt}
-use Rattle.tape.specs.Display.{limitsAnswer}
+use Rattle.tape.specs.Answers.{limitsMeans}
 use Rattle.replay.specs.Trace.{traceRefusal}
 use Rattle.replay.proofs.Heads.{head-passed, head-given, head-refused, answers-refused, plan-refused, trace-run}
 use borrow.Author.Needs.{needs}
 use Rattle.replay.proofs.replay.Statement.{statement}
 use Rattle.replay.proofs.replay.Tie as tie
-
-read-head-requires : tie.Need-read-head-requires
-read-head-requires c κs = search needs
-
-enum-known-why : tie.Need-enum-known-why
-enum-known-why c = search needs
-
-enum-known-l : tie.Need-enum-known-l
-enum-known-l c = search needs
 
 -- what is known where the head passes
 module _ (c : tie.After-known-told2) where
@@ -28,13 +19,10 @@ module _ (c : tie.After-known-told2) where
   start = read .before .before .before .before
 
   passed : (traceRefusal (start .args .trace .now) ≡ 0) × ((limitsAt (start .args .trace .now) ≡ c .before .l .given .0 .0) × (limitsRefusal (c .before .l .given .0 .0) ≡ 0))
-  passed = head-given (start .args .trace .now) (sym (read .read-head .ensures) ∙ ap limitsAnswer (c .before .l .given .1))
+  passed = head-given (start .args .trace .now) (sym (read .read-head .ensures) ∙ ap limitsMeans (c .before .l .given .1))
 
 sub-if1 : tie.Need-sub-if1
 sub-if1 c = omega (arith, head-passed (start c .args .trace .now) (passed c .0) .0)
-
-mul-if1 : tie.Need-mul-if1
-mul-if1 c = search needs
 
 returns : tie.Need-returns
 returns c = let k = c .before in answers-refused (start k .args .trace .now) (start k .args .answers .now) (start k .args .plan .now) (passed k .0) (c .if1 .taken)
@@ -53,13 +41,7 @@ returns-3 c =
     let w = c .before .why in
     let r = c .before .before .before in
     let a = r .before .before .before .before .args in
-    head-refused (a .trace .now) (a .answers .now) (a .plan .now) (w .given .0 .0) (sym (r .read-head .ensures) ∙ ap limitsAnswer (w .given .1))
-
-same-length : tie.Need-same-length
-same-length c = search needs
-
-same-length-2 : tie.Need-same-length-2
-same-length-2 c = search needs
+    head-refused (a .trace .now) (a .answers .now) (a .plan .now) (w .given .0 .0) (sym (r .read-head .ensures) ∙ ap limitsMeans (w .given .1))
 
 returns-4 : tie.Need-returns-4
 returns-4 c =
@@ -73,15 +55,15 @@ pub replay-spec : {M : Type 1} → statement M
 replay-spec =
     tie.close
     (tie.spec
-    read-head-requires
-    enum-known-why
-    enum-known-l
+    (λ c κs. search needs)
+    (λ c. search needs)
+    (λ c. search needs)
     sub-if1
-    mul-if1
+    (λ c. search needs)
     returns
     returns-2
     run-all-requires
     returns-3
-    same-length
-    same-length-2
+    (λ c. search needs)
+    (λ c. search needs)
     returns-4)

@@ -1,4 +1,4 @@
--- `replay::run_all` meets its contract: the limits are not refused, and `demanded` has the rest. From the planner's promises. Assumes nothing.
+-- `replay::run_all` meets its contract: the limits are not refused, and `demanded` has the rest. From the planner's promises.
 use mathlib.Core.Path.{sym}
 use Prim.Native.Nat.{_+_}
 use native.Mathlib.Omega.{arith}
@@ -8,21 +8,6 @@ use Rattle.replay.proofs.Runs.{demanded}
 use borrow.Author.Needs.{needs}
 use Rattle.replay.proofs.run_all.Statement.{statement}
 use Rattle.replay.proofs.run_all.Tie as tie
-
-fresh-requires : tie.Need-fresh-requires
-fresh-requires c κs = search needs
-
-run-requires : tie.Need-run-requires
-run-requires c κs = search needs
-
-told-requires : tie.Need-told-requires
-told-requires c κs = search needs
-
-add-junctions : tie.Need-add-junctions
-add-junctions c = search needs
-
-slice-relend-prefix-shown : tie.Need-slice-relend-prefix-shown
-slice-relend-prefix-shown c = search needs
 
 -- what is known once the number is told
 module _ (c : tie.After-told) where
@@ -40,15 +25,6 @@ slice-aggregate-shown c =
     let t = c .before .before in
     sym (length-take-le (t .told .result + 1) (start t .args .plan .now) (omega (arith, told-few (t .told .ensures), start t .pre .3)))
 
-shown-requires : tie.Need-shown-requires
-shown-requires c κs = search needs
-
-same-length : tie.Need-same-length
-same-length c = search needs
-
-same-length-2 : tie.Need-same-length-2
-same-length-2 c = search needs
-
 returns : tie.Need-returns
 returns c =
     let w = c .before .before in
@@ -60,13 +36,13 @@ pub run-all-spec : {M : Type 1} → statement M
 run-all-spec =
     tie.close
     (tie.spec
-    fresh-requires
-    run-requires
-    told-requires
-    add-junctions
-    slice-relend-prefix-shown
+    (λ c κs. search needs)
+    (λ c κs. search needs)
+    (λ c κs. search needs)
+    (λ c. search needs)
+    (λ c. search needs)
     slice-aggregate-shown
-    shown-requires
-    same-length
-    same-length-2
+    (λ c κs. search needs)
+    (λ c. search needs)
+    (λ c. search needs)
     returns)

@@ -1,4 +1,4 @@
--- `streams::after` meets its contract, by its two tests. Assumes nothing.
+-- `streams::after` meets its contract, by its two tests.
 use mathlib.Core.Path.{_≡_, ap, _∙_}
 use lib.IntN.{ℤ}
 use mir.Syntax.{w64}

@@ -1,4 +1,4 @@
--- `streams::read_input` meets its contract and ends: each turn leaves less room. Assumes nothing.
+-- `streams::read_input` meets its contract and ends: each turn leaves less room.
 use mathlib.Core.Path.{_≡_, refl, sym, ap, _∙_}
 use Prim.Native.Nat.{ℕ, _+_, _-_, _≤_, _<_}
 use native.Mathlib.Omega.{arith}

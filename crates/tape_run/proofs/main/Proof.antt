@@ -1,4 +1,4 @@
--- `tape_run::main` is safe and ends: the turns that are left fall. Assumes nothing.
+-- `tape_run::main` is safe and ends: the turns that are left fall.
 use borrow.Author.Needs.{needs}
 use Rattle.tape_run.proofs.main.Statement.{statement}
 use Rattle.tape_run.proofs.main.Tie as tie
@@ -9,29 +9,11 @@ Inv-loop buffer₀ turns₀ buffer turns = Unit {0}
 abbrev μ-loop : tie.MeasureT-loop
 μ-loop buffer₀ turns₀ buffer turns = turns
 
-large-buffer-requires : tie.Need-large-buffer-requires Inv-loop μ-loop
-large-buffer-requires c κs = search needs
-
 loop-holds : tie.Need-loop-holds Inv-loop μ-loop
 loop-holds c = tt
 
-slice-aggregate-read-full : tie.Need-slice-aggregate-read-full Inv-loop μ-loop
-slice-aggregate-read-full c = search needs
-
-read-full-requires : tie.Need-read-full-requires Inv-loop μ-loop
-read-full-requires c κs = search needs
-
 returns : tie.Need-returns Inv-loop μ-loop
 returns c = tt
-
-run-case-requires : tie.Need-run-case-requires Inv-loop μ-loop
-run-case-requires c κs = search needs
-
-sub-turns : tie.Need-sub-turns Inv-loop μ-loop
-sub-turns c = search needs
-
-loop-less : tie.Need-loop-less Inv-loop μ-loop
-loop-less c = search needs
 
 loop-again : tie.Need-loop-again Inv-loop μ-loop
 loop-again c = tt
@@ -45,13 +27,13 @@ main-spec =
     (tie.spec
     Inv-loop
     μ-loop
-    large-buffer-requires
+    (λ c κs. search needs)
     loop-holds
-    slice-aggregate-read-full
-    read-full-requires
+    (λ c. search needs)
+    (λ c κs. search needs)
     returns
-    run-case-requires
-    sub-turns
-    loop-less
+    (λ c κs. search needs)
+    (λ c. search needs)
+    (λ c. search needs)
     loop-again
     returns-2)

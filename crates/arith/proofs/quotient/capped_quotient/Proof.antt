@@ -1,4 +1,4 @@
--- `arith::quotient::capped_quotient` meets its contract: a quotient of 2^64 or more passes every cap; a smaller one is worked out. Assumes nothing.
+-- `arith::quotient::capped_quotient` meets its contract: a quotient of 2^64 or more passes every cap; a smaller one is worked out.
 use mathlib.Core.Path.{sym, ap, _∙_}
 use Prim.Native.Nat.{ℕ, _*_, _/_, _^_, min}
 use borrow.Author.Needs.{needs}
@@ -7,9 +7,6 @@ use native.Mathlib.Omega.{arith}
 use Rattle.arith.proofs.QuotientLaws.{quotient-cap, quotient-positive}
 use Rattle.arith.proofs.quotient.capped_quotient.Statement.{statement}
 use Rattle.arith.proofs.quotient.capped_quotient.Tie as tie
-
-product-requires : tie.Need-product-requires
-product-requires c κs = search needs
 
 returns : tie.Need-returns
 returns c =
@@ -20,9 +17,6 @@ returns c =
 div-smaller : tie.Need-div-smaller
 div-smaller c = omega (arith, c .before .if1 .left)
 
-smaller-requires : tie.Need-smaller-requires
-smaller-requires c κs = search needs
-
 returns-2 : tie.Need-returns-2
 returns-2 c =
     let a = c .before .before .before .before .args in
@@ -30,12 +24,6 @@ returns-2 c =
     c .smaller .ensures
     ∙ ap (λ (x : ℕ). min (a .cap) (x / a .d)) (omega (arith, n .ensures, c .before .if2 .taken))
     ∙ sym (quotient-positive (a .cap) (a .a * a .b) (a .d) (omega (arith, c .before .before .if1 .left)))
-
-quotient-requires : tie.Need-quotient-requires
-quotient-requires c κs = search needs
-
-smaller-requires-2 : tie.Need-smaller-requires-2
-smaller-requires-2 c κs = search needs
 
 returns-3 : tie.Need-returns-3
 returns-3 c =
@@ -49,11 +37,11 @@ pub capped-quotient-spec : {M : Type 1} → statement M
 capped-quotient-spec =
     tie.close
     (tie.spec
-    product-requires
+    (λ c κs. search needs)
     returns
     div-smaller
-    smaller-requires
+    (λ c κs. search needs)
     returns-2
-    quotient-requires
-    smaller-requires-2
+    (λ c κs. search needs)
+    (λ c κs. search needs)
     returns-3)

@@ -1,4 +1,4 @@
--- `arith::quotient::digit` meets its contract. The invariant: q is a digit that is not too small, and its product with d's leading half is within `high`. The measure is q. Assumes nothing.
+-- `arith::quotient::digit` meets its contract. The invariant: q is a digit that is not too small, and its product with d's leading half is within `high`. The measure is q.
 use mathlib.Core.Path.{sym}
 use Prim.Native.Nat.{_+_, _-_, _*_, _/_, _%_, _^_, _≤_, _<_}
 use native.Mathlib.Nat.{min-le-left, le-div-iff-mul-le, div-eq-of-lt-le}

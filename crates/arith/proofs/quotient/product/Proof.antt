@@ -1,4 +1,4 @@
--- `arith::quotient::product` meets its contract: the columns of a product by its halves. Assumes nothing.
+-- `arith::quotient::product` meets its contract: the columns of a product by its halves.
 use mathlib.Core.Path.{_∙_}
 use Prim.Native.Nat.{ℕ, _*_, _/_, _%_, _^_, _-_, _≤_, _<_}
 use native.Mathlib.Omega.{arith}

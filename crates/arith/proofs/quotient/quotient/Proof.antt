@@ -1,4 +1,4 @@
--- `arith::quotient::quotient` meets its contract: two digits of a long division by the scaled divisor. Assumes nothing.
+-- `arith::quotient::quotient` meets its contract: two digits of a long division by the scaled divisor.
 use mathlib.Core.Path.{_≡_, refl, _∙_}
 use Prim.Native.Nat.{ℕ, _+_, _*_, _/_, _%_, _^_, _-_, _<_}
 use borrow.Author.Needs.{needs}
@@ -35,9 +35,6 @@ module _ (c : tie.After-pow22) where
   full : Scaled (start .args .high) (start .args .low) (start .args .d) (c .before .before .zeros .result) (c .before .pow2 .result) (c .pow22 .result)
   full = scaling (c .before .before) (c .before .pow2 .result) (c .pow22 .result) (c .before .pow2 .ensures) (c .pow22 .ensures)
 
-zeros-requires : tie.Need-zeros-requires
-zeros-requires c κs = search needs
-
 pow2-requires : tie.Need-pow2-requires
 pow2-requires c κs = omega (arith, scaling c _ _ refl refl .shift)
 
@@ -49,9 +46,6 @@ mul-top c = record { fits = omega (arith, half-scaled c .below, half-scaled c .f
 
 sub-pow2 : tie.Need-sub-pow2
 sub-pow2 c = half-scaled c .shift
-
-pow2-requires-2 : tie.Need-pow2-requires-2
-pow2-requires-2 c κs = search needs
 
 div-top : tie.Need-div-top
 div-top c = full c .room
@@ -101,12 +95,12 @@ pub quotient-spec : {M : Type 1} → statement M
 quotient-spec =
     tie.close
     (tie.spec
-    zeros-requires
+    (λ c κs. search needs)
     pow2-requires
     mul-divisor
     mul-top
     sub-pow2
-    pow2-requires-2
+    (λ c κs. search needs)
     div-top
     add-top
     shl-rest

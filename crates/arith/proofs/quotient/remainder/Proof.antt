@@ -1,4 +1,4 @@
--- `arith::quotient::remainder` meets its contract: the difference modulo 2^64 is the difference, which is below d. Assumes nothing.
+-- `arith::quotient::remainder` meets its contract: the difference modulo 2^64 is the difference, which is below d.
 use Prim.Native.Nat.{_*_, _/_, _%_, _^_, _≤_, _-_}
 use borrow.Author.Needs.{needs}
 use native.Mathlib.Omega.{arith}
@@ -20,17 +20,8 @@ mul-left c = record { fits = omega (arith, within c) }
 sub-left : tie.Need-sub-left
 sub-left c = within c
 
-mul-wrapping-sub-u64 : tie.Need-mul-wrapping-sub-u64
-mul-wrapping-sub-u64 c = search needs
-
-add-wrapping-sub-u64 : tie.Need-add-wrapping-sub-u64
-add-wrapping-sub-u64 c = search needs
-
 mul-wrapping-sub-u64-2 : tie.Need-mul-wrapping-sub-u64-2
 mul-wrapping-sub-u64-2 c = record { fits = omega (arith, small c) }
-
-wrapping-sub-u64-requires : tie.Need-wrapping-sub-u64-requires
-wrapping-sub-u64-requires c κs = search needs
 
 returns : tie.Need-returns
 returns c =
@@ -44,8 +35,8 @@ remainder-spec =
     (tie.spec
     mul-left
     sub-left
-    mul-wrapping-sub-u64
-    add-wrapping-sub-u64
+    (λ c. search needs)
+    (λ c. search needs)
     mul-wrapping-sub-u64-2
-    wrapping-sub-u64-requires
+    (λ c κs. search needs)
     returns)

@@ -1,4 +1,4 @@
--- `arith::root::first_guess` meets its contract, whatever the table holds: an entry is a byte, and the scale is at most 2^28. Assumes nothing.
+-- `arith::root::first_guess` meets its contract, whatever the table holds: an entry is a byte, and the scale is at most 2^28.
 use Prim.Native.Nat.{_*_, _^_, _≤_}
 use native.Mathlib.Nat.{mul-le-mul}
 use native.Mathlib.Omega.{arith}

@@ -1,4 +1,4 @@
--- `arith::root::root` meets its contract. The invariant: r is above 0, at least the root, and its double fits; Newton's laws keep it. The measure is r. Assumes nothing.
+-- `arith::root::root` meets its contract. The invariant: r is above 0, at least the root, and its double fits; Newton's laws keep it. The measure is r.
 use mathlib.Core.Path.{sym, ap, _∙_}
 use Prim.Native.Nat.{_+_, _*_, _/_, _^_, _≤_, _<_}
 use borrow.Author.Needs.{needs}
@@ -8,8 +8,6 @@ use Rattle.arith.specs.Root.{rootOf}
 use Rattle.arith.proofs.RootLaws.{root-of-zero, newton-above, newton-turn, newton-ends}
 use Rattle.arith.proofs.root.root.Statement.{statement}
 use Rattle.arith.proofs.root.root.Tie as tie
-use Rattle.arith.proofs.root.root.Reads as reads
-use Rattle.arith.proofs.root.root.Lts as lts
 
 abbrev Inv-loop : tie.InvT-loop
 Inv-loop n guess r₀ r = (0 < r) × (r < 2 ^ 63) × (n < (r + 1) * (r + 1))
@@ -24,12 +22,6 @@ first-quotient c = div-le-of-le-mul (c .first-guess .result) (omega arith)
 returns : tie.Need-returns Inv-loop μ-loop
 returns c = sym (ap rootOf (c .if1 .taken) ∙ root-of-zero)
 
-first-guess-requires : tie.Need-first-guess-requires Inv-loop μ-loop
-first-guess-requires c κs = search needs
-
-div-r : tie.Need-div-r Inv-loop μ-loop
-div-r c = search needs
-
 add-r : tie.Need-add-r Inv-loop μ-loop
 add-r c = record { fits = omega (arith, first-quotient c) }
 
@@ -38,15 +30,6 @@ loop-holds c =
     let n = c .before .before .args .n in
     let g = c .first-guess .result in
     (newton-turn n g (omega (arith, c .before .if1 .left)) (omega arith), omega (arith, first-quotient c), newton-above n g (omega arith))
-
-div-q : tie.Need-div-q Inv-loop μ-loop
-div-q c = search needs
-
-add-r-2 : tie.Need-add-r-2 Inv-loop μ-loop
-add-r-2 c = search needs
-
-loop-less : tie.Need-loop-less Inv-loop μ-loop
-loop-less c = search needs
 
 loop-again : tie.Need-loop-again Inv-loop μ-loop
 loop-again c =
@@ -64,12 +47,12 @@ root-spec =
     Inv-loop
     μ-loop
     returns
-    first-guess-requires
-    div-r
+    (λ c κs. search needs)
+    (λ c. search needs)
     add-r
     loop-holds
-    div-q
-    add-r-2
-    loop-less
+    (λ c. search needs)
+    (λ c. search needs)
+    (λ c. search needs)
     loop-again
     returns-2)

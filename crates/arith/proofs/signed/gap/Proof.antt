@@ -1,4 +1,4 @@
--- `arith::signed::gap` meets its contract, by the sign of s. Assumes nothing.
+-- `arith::signed::gap` meets its contract, by the sign of s.
 use mathlib.Core.Path.{_≡_, ap, sym, _∙_}
 use Prim.Native.Nat.{ℕ, _+_, _-_}
 use borrow.Author.Needs.{needs}
@@ -13,9 +13,6 @@ use Rattle.arith.proofs.signed.gap.Tie as tie
 size-is : (c : tie.After-magnitude) → c .magnitude .result ≡ natAbs (c .before .args .s)
 size-is c = c .magnitude .ensures ∙ ap natAbs (read-back (c .before .fits .s))
 
-magnitude-requires : tie.Need-magnitude-requires
-magnitude-requires c κs = search needs
-
 add-result : tie.Need-add-result
 add-result c =
     let s = c .before .before in
@@ -26,9 +23,6 @@ returns c =
     let s = c .before .before in
     ap (λ (n : ℕ). s .args .p + n) (size-is (c .before))
     ∙ gap-negative (s .args .p) (s .args .s) (ap (λ (z : ℤ). ltZ z (pos 0)) (sym (read-back (s .fits .s))) ∙ c .if1 .taken)
-
-sub-result : tie.Need-sub-result
-sub-result c = search needs
 
 -- where s is not below 0, the gap is a difference of whole numbers
 positive-gap : (c : tie.Else1) → c .before .before .args .p - c .before .magnitude .result ≡ gapOf (c .before .before .args .p) (c .before .before .args .s)
@@ -46,4 +40,4 @@ returns-3 c = omega (arith, positive-gap (c .before))
 
 pub gap-spec : {M : Type 1} → statement M
 gap-spec =
-    tie.close (tie.spec magnitude-requires add-result returns sub-result returns-2 returns-3)
+    tie.close (tie.spec (λ c κs. search needs) add-result returns (λ c. search needs) returns-2 returns-3)

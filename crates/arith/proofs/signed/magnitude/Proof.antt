@@ -1,4 +1,4 @@
--- `arith::signed::magnitude` meets its contract: below 0, -(x + 1) is at least 0 and one less than the magnitude. Assumes nothing.
+-- `arith::signed::magnitude` meets its contract: below 0, -(x + 1) is at least 0 and one less than the magnitude.
 use mathlib.Core.Path.{_≡_, ap, sym, _∙_}
 use Prim.Native.Nat.{ℕ, _+_, _^_, _<_}
 use native.Mathlib.Numerals.{add-one}

@@ -1,4 +1,4 @@
--- `arith::signed::plus` meets its contract: the sum fits by its magnitude. Assumes nothing.
+-- `arith::signed::plus` meets its contract: the sum fits by its magnitude.
 use mathlib.Core.Path.{_≡_, _∙_}
 use native.Mathlib.Nat.{lt-of-le-of-lt}
 use lib.IntN.{_+ℤ_}

@@ -1,4 +1,4 @@
--- `arith::signed::times` meets its contract: the product fits by its magnitude. Assumes nothing.
+-- `arith::signed::times` meets its contract: the product fits by its magnitude.
 use mathlib.Core.Path.{_≡_, _∙_}
 use lib.IntN.{_*ℤ_}
 use mir.Syntax.{w64}

@@ -1,4 +1,4 @@
--- `arith::whole::zeros` meets its contract, by the count's own bound. Assumes nothing.
+-- `arith::whole::zeros` meets its contract, by the count's own bound.
 use mathlib.Core.Path.{refl}
 use native.Mathlib.Omega.{arith}
 use lib.Count.{leading-le}

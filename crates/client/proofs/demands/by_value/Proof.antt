@@ -1,4 +1,4 @@
--- `client::demands::by_value` meets its contract, in the same way. Assumes nothing.
+-- `client::demands::by_value` meets its contract, in the same way.
 use borrow.Author.Needs.{needs}
 use Rattle.planner.specs.Calls.{none, next}
 use Rattle.planner.proofs.Demand.{demand3}

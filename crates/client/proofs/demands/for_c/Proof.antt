@@ -1,6 +1,5 @@
--- `client::demands::for_c` meets its contract: the promises of the functions for C, and their theorem. Assumes nothing.
+-- `client::demands::for_c` meets its contract: the promises of the functions for C, and their theorem.
 use mathlib.Core.Path.{subst}
-use Prim.Native.Nat.{ℕ}
 use lib.IntN.{ℤ}
 use borrow.Author.Needs.{needs}
 use Rattle.arith.proofs.SignedLaws.{read-back}

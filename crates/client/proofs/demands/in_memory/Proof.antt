@@ -1,4 +1,4 @@
--- `client::demands::in_memory` meets its contract: the promises of its calls, one after the other, and the planner's theorem. Assumes nothing.
+-- `client::demands::in_memory` meets its contract: the promises of its calls, one after the other, and the planner's theorem.
 use borrow.Author.Needs.{needs}
 use Rattle.planner.specs.Calls.{none, next}
 use Rattle.planner.proofs.Demand.{demand3}

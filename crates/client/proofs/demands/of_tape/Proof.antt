@@ -1,4 +1,4 @@
--- `client::demands::of_tape` meets its contract: the promise of `plan_tape`, and the tape's theorem. Assumes nothing.
+-- `client::demands::of_tape` meets its contract: the promise of `plan_tape`, and the tape's theorem.
 use borrow.Author.Needs.{needs}
 use Rattle.tapeplan.proofs.Demand.{tape-demand3}
 use Rattle.client.proofs.demands.of_tape.Statement.{statement}

@@ -1,5 +1,5 @@
--- `fullerecru::numbers::put_moves`: the list is stored whole. Assumes nothing.
-use mathlib.Core.List.{[], _∷_}
+-- `fullerecru::numbers::put_moves`: the list is stored whole.
+use mathlib.Core.List.{_∷_}
 use mathlib.Core.Path.{_∙_}
 use lib.Seq.{sets}
 use Rattle.arith.proofs.SignedLaws.{field-back}
@@ -8,18 +8,6 @@ use Rattle.fullerecru.specs.Moves.{blockMoves}
 use borrow.Author.Needs.{needs}
 use Rattle.fullerecru.proofs.numbers.put_moves.Statement.{statement}
 use Rattle.fullerecru.proofs.numbers.put_moves.Tie as tie
-
-slice-set-from-x : tie.Need-slice-set-from-x
-slice-set-from-x c = search needs
-
-slice-set-from-y : tie.Need-slice-set-from-y
-slice-set-from-y c = search needs
-
-slice-set-from-z : tie.Need-slice-set-from-z
-slice-set-from-z c = search needs
-
-same-length : tie.Need-same-length
-same-length c = search needs
 
 returns : tie.Need-returns
 returns c =
@@ -31,4 +19,4 @@ returns c =
 
 pub put-moves-spec : {M : Type 1} → statement M
 put-moves-spec =
-    tie.close (tie.spec slice-set-from-x slice-set-from-y slice-set-from-z same-length returns)
+    tie.close (tie.spec (λ c. search needs) (λ c. search needs) (λ c. search needs) (λ c. search needs) returns)

@@ -1,4 +1,4 @@
--- `fullerecru::planners::fullerecru_add`: the promise of `add` at the block, by its number. Assumes nothing.
+-- `fullerecru::planners::fullerecru_add`: the promise of `add` at the block, by its number.
 use mathlib.Core.Path.{subst}
 use borrow.Author.Needs.{needs}
 use Rattle.arith.proofs.SignedLaws.{read-back}
@@ -9,12 +9,6 @@ use Rattle.planner.specs.Calls.{Called}
 use Rattle.fullerecru.proofs.Displayed.{added-by}
 use Rattle.fullerecru.proofs.planners.fullerecru_add.Statement.{statement}
 use Rattle.fullerecru.proofs.planners.fullerecru_add.Tie as tie
-
-add-requires : tie.Need-add-requires
-add-requires c κs = search needs
-
-added-number-requires : tie.Need-added-number-requires
-added-number-requires c κs = search needs
 
 returns : tie.Need-returns
 returns c =
@@ -29,4 +23,4 @@ returns c =
     (c .added-number .ensures)
 
 pub fullerecru-add-spec : {M : Type 1} → statement M
-fullerecru-add-spec = tie.close (tie.spec add-requires added-number-requires returns)
+fullerecru-add-spec = tie.close (tie.spec (λ c κs. search needs) (λ c κs. search needs) returns)

@@ -1,4 +1,4 @@
--- `fullerecru::planners::fullerecru_fresh`: the promise of `fresh` at the limits that were read. Assumes nothing.
+-- `fullerecru::planners::fullerecru_fresh`: the promise of `fresh` at the limits that were read.
 use borrow.Author.Needs.{needs}
 use Rattle.fullerecru.proofs.Displayed.{fresh-by}
 use Rattle.fullerecru.proofs.planners.fullerecru_fresh.Statement.{statement}

@@ -1,4 +1,4 @@
--- `fullerecru::planners::fullerecru_take`: the promise of `take`, by its number, with the lent lists. Assumes nothing.
+-- `fullerecru::planners::fullerecru_take`: the promise of `take`, by its number, with the lent lists.
 use mathlib.Core.Path.{sym, ap, _∙_}
 use borrow.Author.Needs.{needs}
 use Rattle.line.specs.Answers.{answerNumber, takeMeans}
@@ -7,21 +7,6 @@ use Rattle.fullerecru.specs.Planners.{movesAfter, numbersAfter}
 use Rattle.fullerecru.proofs.Displayed.{taken-out}
 use Rattle.fullerecru.proofs.planners.fullerecru_take.Statement.{statement}
 use Rattle.fullerecru.proofs.planners.fullerecru_take.Tie as tie
-
-take-requires : tie.Need-take-requires
-take-requires c κs = search needs
-
-enum-known-why : tie.Need-enum-known-why
-enum-known-why c = search needs
-
-refusal-number-requires : tie.Need-refusal-number-requires
-refusal-number-requires c κs = search needs
-
-enum-known-g : tie.Need-enum-known-g
-enum-known-g c = search needs
-
-hand-out-requires : tie.Need-hand-out-requires
-hand-out-requires c κs = search needs
 
 returns : tie.Need-returns
 returns c =
@@ -46,4 +31,4 @@ returns-2 c =
 
 pub fullerecru-take-spec : {M : Type 1} → statement M
 fullerecru-take-spec =
-    tie.close (tie.spec take-requires enum-known-why refusal-number-requires enum-known-g hand-out-requires returns returns-2)
+    tie.close (tie.spec (λ c κs. search needs) (λ c. search needs) (λ c κs. search needs) (λ c. search needs) (λ c κs. search needs) returns returns-2)

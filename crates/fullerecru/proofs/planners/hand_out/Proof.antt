@@ -1,4 +1,4 @@
--- `fullerecru::planners::hand_out`: both lists are stored whole. Assumes nothing.
+-- `fullerecru::planners::hand_out`: both lists are stored whole.
 use native.Mathlib.Omega.{arith}
 use lib.ListN.{length-set}
 use Rattle.planner.proofs.View.{sets-all}
@@ -6,12 +6,6 @@ use Rattle.fullerecru.specs.Planners.{givenNumbers}
 use borrow.Author.Needs.{needs}
 use Rattle.fullerecru.proofs.planners.hand_out.Statement.{statement}
 use Rattle.fullerecru.proofs.planners.hand_out.Tie as tie
-
-put-moves-requires : tie.Need-put-moves-requires
-put-moves-requires c κs = search needs
-
-slice-write-numbers : tie.Need-slice-write-numbers
-slice-write-numbers c = search needs
 
 slice-write-numbers-2 : tie.Need-slice-write-numbers-2
 slice-write-numbers-2 c = simp length-set (omega arith)
@@ -43,9 +37,6 @@ slice-write-numbers-10 c = simp length-set (omega arith)
 slice-write-numbers-11 : tie.Need-slice-write-numbers-11
 slice-write-numbers-11 c = simp length-set (omega arith)
 
-same-length : tie.Need-same-length
-same-length c = search needs
-
 same-length-2 : tie.Need-same-length-2
 same-length-2 c = simp length-set
 
@@ -58,8 +49,8 @@ pub hand-out-spec : {M : Type 1} → statement M
 hand-out-spec =
     tie.close
     (tie.spec
-    put-moves-requires
-    slice-write-numbers
+    (λ c κs. search needs)
+    (λ c. search needs)
     slice-write-numbers-2
     slice-write-numbers-3
     slice-write-numbers-4
@@ -70,6 +61,6 @@ hand-out-spec =
     slice-write-numbers-9
     slice-write-numbers-10
     slice-write-numbers-11
-    same-length
+    (λ c. search needs)
     same-length-2
     returns)

@@ -1,4 +1,4 @@
--- `fullerecru::plans::fullerecru_replay`: the promise of `replay` by its number, with the number told. Assumes nothing.
+-- `fullerecru::plans::fullerecru_replay`: the promise of `replay` by its number, with the number told.
 use mathlib.Core.Path.{subst}
 use borrow.Author.Needs.{needs}
 use Rattle.replay.specs.Replays.{Replays}
@@ -6,27 +6,6 @@ use Rattle.replay.specs.declared.Replayed.{Replayed}
 use Rattle.fullerecru.proofs.WholeTapes.{trace-run, trace-refused}
 use Rattle.fullerecru.proofs.plans.fullerecru_replay.Statement.{statement}
 use Rattle.fullerecru.proofs.plans.fullerecru_replay.Tie as tie
-
-replay-requires : tie.Need-replay-requires
-replay-requires c κs = search needs
-
-enum-known-why : tie.Need-enum-known-why
-enum-known-why c = search needs
-
-refusal-number-requires : tie.Need-refusal-number-requires
-refusal-number-requires c κs = search needs
-
-enum-known-held : tie.Need-enum-known-held
-enum-known-held c = search needs
-
-put-number-requires : tie.Need-put-number-requires
-put-number-requires c κs = search needs
-
-same-length : tie.Need-same-length
-same-length c = search needs
-
-same-length-2 : tie.Need-same-length-2
-same-length-2 c = search needs
 
 returns : tie.Need-returns
 returns c =
@@ -36,12 +15,6 @@ returns c =
     trace-refused (a .trace .now) (a .answers .now) (a .plan .now) (a .told .now) (w .why .given .0 .0) (c .refusal-number .result)
     (subst (λ (x : Replayed). Replays (a .trace .now) (a .answers .now) (a .plan .now) x (r .replay .last .1 .0) (r .replay .last .1 .1 .0)) (w .why .given .1) (r .replay .ensures))
     (c .refusal-number .ensures)
-
-same-length-3 : tie.Need-same-length-3
-same-length-3 c = search needs
-
-same-length-4 : tie.Need-same-length-4
-same-length-4 c = search needs
 
 returns-2 : tie.Need-returns-2
 returns-2 c =
@@ -56,14 +29,14 @@ pub fullerecru-replay-spec : {M : Type 1} → statement M
 fullerecru-replay-spec =
     tie.close
     (tie.spec
-    replay-requires
-    enum-known-why
-    refusal-number-requires
-    enum-known-held
-    put-number-requires
-    same-length
-    same-length-2
+    (λ c κs. search needs)
+    (λ c. search needs)
+    (λ c κs. search needs)
+    (λ c. search needs)
+    (λ c κs. search needs)
+    (λ c. search needs)
+    (λ c. search needs)
     returns
-    same-length-3
-    same-length-4
+    (λ c. search needs)
+    (λ c. search needs)
     returns-2)

@@ -1,23 +1,11 @@
--- `fullerecru::tapes::fullerecru_write_limits`: the promise of `write_limits` at the limits that were read. Assumes nothing.
+-- `fullerecru::tapes::fullerecru_write_limits`: the promise of `write_limits` at the limits that were read.
 use mathlib.Core.Path.{subst}
 use borrow.Author.Needs.{needs}
 use Rattle.machine.specs.declared.Limits.{Limits}
-use Rattle.tape.specs.Display.{limitsWriteRefusal, limitsWritten, Wrote}
+use Rattle.tape.specs.Answers.{limitsWriteRefusal, limitsWritten, Wrote}
 use Rattle.fullerecru.proofs.FromBytes.{written}
 use Rattle.fullerecru.proofs.tapes.fullerecru_write_limits.Statement.{statement}
 use Rattle.fullerecru.proofs.tapes.fullerecru_write_limits.Tie as tie
-
-limits-of-requires : tie.Need-limits-of-requires
-limits-of-requires c κs = search needs
-
-write-limits-requires : tie.Need-write-limits-requires
-write-limits-requires c κs = search needs
-
-checked-number-requires : tie.Need-checked-number-requires
-checked-number-requires c κs = search needs
-
-same-length : tie.Need-same-length
-same-length c = search needs
 
 returns : tie.Need-returns
 returns c =
@@ -32,4 +20,4 @@ returns c =
 pub fullerecru-write-limits-spec : {M : Type 1} → statement M
 fullerecru-write-limits-spec =
     tie.close
-    (tie.spec limits-of-requires write-limits-requires checked-number-requires same-length returns)
+    (tie.spec (λ c κs. search needs) (λ c κs. search needs) (λ c κs. search needs) (λ c. search needs) returns)

@@ -1,21 +1,12 @@
--- `fullerecru::tapes::fullerecru_write_record`: the promise of `write_record` at the block. Assumes nothing.
+-- `fullerecru::tapes::fullerecru_write_record`: the promise of `write_record` at the block.
 use mathlib.Core.Path.{subst}
 use borrow.Author.Needs.{needs}
 use Rattle.arith.proofs.SignedLaws.{read-back}
 use Rattle.machine.specs.declared.Block.{Block}
-use Rattle.tape.specs.Display.{recordWriteRefusal, recordWritten, Wrote}
+use Rattle.tape.specs.Answers.{recordWriteRefusal, recordWritten, Wrote}
 use Rattle.fullerecru.proofs.FromBytes.{written}
 use Rattle.fullerecru.proofs.tapes.fullerecru_write_record.Statement.{statement}
 use Rattle.fullerecru.proofs.tapes.fullerecru_write_record.Tie as tie
-
-write-record-requires : tie.Need-write-record-requires
-write-record-requires c κs = search needs
-
-checked-number-requires : tie.Need-checked-number-requires
-checked-number-requires c κs = search needs
-
-same-length : tie.Need-same-length
-same-length c = search needs
 
 returns : tie.Need-returns
 returns c =
@@ -31,4 +22,4 @@ returns c =
 
 pub fullerecru-write-record-spec : {M : Type 1} → statement M
 fullerecru-write-record-spec =
-    tie.close (tie.spec write-record-requires checked-number-requires same-length returns)
+    tie.close (tie.spec (λ c κs. search needs) (λ c κs. search needs) (λ c. search needs) returns)

@@ -1,4 +1,4 @@
--- `fullerecru::tapes::put_limits`: the list is stored whole. Assumes nothing.
+-- `fullerecru::tapes::put_limits`: the list is stored whole.
 use borrow.Author.Needs.{needs}
 use native.Mathlib.Omega.{arith}
 use lib.ListN.{length-set}
@@ -6,18 +6,6 @@ use Rattle.planner.proofs.View.{sets-all}
 use Rattle.fullerecru.specs.Tapes.{limitsList}
 use Rattle.fullerecru.proofs.tapes.put_limits.Statement.{statement}
 use Rattle.fullerecru.proofs.tapes.put_limits.Tie as tie
-
-slice-write-list : tie.Need-slice-write-list
-slice-write-list c = search needs
-
-slice-write-list-2 : tie.Need-slice-write-list-2
-slice-write-list-2 c = search needs
-
-slice-write-list-3 : tie.Need-slice-write-list-3
-slice-write-list-3 c = search needs
-
-slice-write-list-4 : tie.Need-slice-write-list-4
-slice-write-list-4 c = search needs
 
 slice-write-list-5 : tie.Need-slice-write-list-5
 slice-write-list-5 c = simp length-set (omega arith)
@@ -44,10 +32,10 @@ pub put-limits-spec : {M : Type 1} → statement M
 put-limits-spec =
     tie.close
     (tie.spec
-    slice-write-list
-    slice-write-list-2
-    slice-write-list-3
-    slice-write-list-4
+    (λ c. search needs)
+    (λ c. search needs)
+    (λ c. search needs)
+    (λ c. search needs)
     slice-write-list-5
     slice-write-list-6
     slice-write-list-7

@@ -1,12 +1,9 @@
--- `machine::check::check_block` meets its contract: each return stands after the tests that decide it, in the definition's order. Assumes nothing.
+-- `machine::check::check_block` meets its contract: each return stands after the tests that decide it, in the definition's order.
 use borrow.Author.Needs.{needs}
 use borrow.Author.Tests.{eq-eqb, ne-eqb, lt-ltb, le-ltb}
 use Rattle.machine.specs.Checks.{blockRefusal}
 use Rattle.machine.proofs.check.check_block.Statement.{statement}
 use Rattle.machine.proofs.check.check_block.Tie as tie
-
-greatest-move-requires : tie.Need-greatest-move-requires
-greatest-move-requires c κs = search needs
 
 returns : tie.Need-returns
 unfolding blockRefusal
@@ -15,9 +12,6 @@ returns c = rw (← c .before .greatest-move .ensures) (simp (eq-eqb _ _ (c .if1
 returns-2 : tie.Need-returns-2
 unfolding blockRefusal
 returns-2 c = rw (← c .before .before .greatest-move .ensures) (simp (ne-eqb _ _ (c .before .if1 .left), lt-ltb _ _ (c .if2 .taken)))
-
-is-within-requires : tie.Need-is-within-requires
-is-within-requires c κs = search needs
 
 returns-3 : tie.Need-returns-3
 unfolding blockRefusal
@@ -54,4 +48,4 @@ returns-6 c =
 pub check-block-spec : {M : Type 1} → statement M
 check-block-spec =
     tie.close
-    (tie.spec greatest-move-requires returns returns-2 is-within-requires returns-3 returns-4 returns-5 returns-6)
+    (tie.spec (λ c κs. search needs) returns returns-2 (λ c κs. search needs) returns-3 returns-4 returns-5 returns-6)

@@ -1,25 +1,10 @@
--- `machine::check::check_limits` meets its contract: the tests together are the definition's. Assumes nothing.
+-- `machine::check::check_limits` meets its contract: the tests together are the definition's.
 use mathlib.Core.Path.{_≡_, sym, ap, _∙_}
-use mathlib.Core.Bool.{Bool, _&&_}
+use mathlib.Core.Bool.{Bool, _&&_, cond}
 use borrow.Author.Needs.{needs}
-use Rattle.machine.specs.Checks.{limitsRefusal, limitsWithin, pick}
+use Rattle.machine.specs.Checks.{limitsRefusal, limitsWithin}
 use Rattle.machine.proofs.check.check_limits.Statement.{statement}
 use Rattle.machine.proofs.check.check_limits.Tie as tie
-
-are-within-requires : tie.Need-are-within-requires
-are-within-requires c κs = search needs
-
-are-within-requires-2 : tie.Need-are-within-requires-2
-are-within-requires-2 c κs = search needs
-
-is-within-requires : tie.Need-is-within-requires
-is-within-requires c κs = search needs
-
-is-within-requires-2 : tie.Need-is-within-requires-2
-is-within-requires-2 c κs = search needs
-
-is-within-requires-3 : tie.Need-is-within-requires-3
-is-within-requires-3 c κs = search needs
 
 -- the flag that the code tests
 flag-is : (c : tie.After-is-within3) →
@@ -34,11 +19,11 @@ flag-is c =
 
 returns : tie.Need-returns
 unfolding limitsRefusal
-returns c = sym (ap (λ (t : Bool). pick t 0 1) (sym (flag-is (c .before)) ∙ c .if1 .taken))
+returns c = sym (ap (λ (t : Bool). cond t 0 1) (sym (flag-is (c .before)) ∙ c .if1 .taken))
 
 returns-2 : tie.Need-returns-2
 unfolding limitsRefusal
-returns-2 c = sym (ap (λ (t : Bool). pick t 0 1) (sym (flag-is (c .before)) ∙ c .if1 .left))
+returns-2 c = sym (ap (λ (t : Bool). cond t 0 1) (sym (flag-is (c .before)) ∙ c .if1 .left))
 
 pub check-limits-spec : {M : Type 1} → statement M
-check-limits-spec = tie.close (tie.spec are-within-requires are-within-requires-2 is-within-requires is-within-requires-2 is-within-requires-3 returns returns-2)
+check-limits-spec = tie.close (tie.spec (λ c κs. search needs) (λ c κs. search needs) (λ c κs. search needs) (λ c κs. search needs) (λ c κs. search needs) returns returns-2)

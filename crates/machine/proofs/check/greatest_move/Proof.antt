@@ -1,4 +1,4 @@
--- `machine::check::greatest_move` meets its contract, from the moves. Assumes nothing.
+-- `machine::check::greatest_move` meets its contract, from the moves.
 use mathlib.Core.Path.{ap, _∙_}
 use Prim.Native.Nat.{max}
 use borrow.Author.Needs.{needs}
@@ -6,15 +6,6 @@ use Rattle.machine.specs.Checks.{greatestMove}
 use Rattle.machine.specs.declared.Axes.{Axes}
 use Rattle.machine.proofs.check.greatest_move.Statement.{statement}
 use Rattle.machine.proofs.check.greatest_move.Tie as tie
-
-moves-of-requires : tie.Need-moves-of-requires
-moves-of-requires c κs = search needs
-
-larger-requires : tie.Need-larger-requires
-larger-requires c κs = search needs
-
-larger-requires-2 : tie.Need-larger-requires-2
-larger-requires-2 c κs = search needs
 
 returns : tie.Need-returns
 unfolding greatestMove
@@ -24,4 +15,4 @@ returns c =
     ∙ ap (λ (m : Axes). max (m .x) (max (m .y) (m .z))) (c .before .before .moves-of .ensures)
 
 pub greatest-move-spec : {M : Type 1} → statement M
-greatest-move-spec = tie.close (tie.spec moves-of-requires larger-requires larger-requires-2 returns)
+greatest-move-spec = tie.close (tie.spec (λ c κs. search needs) (λ c κs. search needs) (λ c κs. search needs) returns)

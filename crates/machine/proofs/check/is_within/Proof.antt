@@ -1,4 +1,4 @@
--- `machine::check::is_within` meets its contract, by the two tests. Assumes nothing.
+-- `machine::check::is_within` meets its contract, by the two tests.
 use borrow.Author.Tests.{le-leb, lt-leb}
 use Rattle.machine.proofs.check.is_within.Statement.{statement}
 use Rattle.machine.proofs.check.is_within.Tie as tie

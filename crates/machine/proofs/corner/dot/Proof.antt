@@ -1,4 +1,4 @@
--- `machine::corner::dot` meets its contract, term by term. Assumes nothing.
+-- `machine::corner::dot` meets its contract, term by term.
 use mathlib.Core.Path.{_≡_, _∙_}
 use Prim.Native.Nat.{_^_, _<_, _≤_, _+_}
 use native.Mathlib.Omega.{arith}

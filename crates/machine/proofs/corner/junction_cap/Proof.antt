@@ -1,4 +1,4 @@
--- `machine::corner::junction_cap` meets its contract, from the numbers of both blocks and the corner between them. Assumes nothing.
+-- `machine::corner::junction_cap` meets its contract, from the numbers of both blocks and the corner between them.
 use mathlib.Core.Path.{_≡_, ap, _∙_}
 use Prim.Native.Nat.{ℕ, _*_, _^_, _<_, min}
 use borrow.Author.Needs.{needs}
@@ -11,15 +11,6 @@ use Rattle.machine.specs.declared.Numbers.{Numbers}
 use Rattle.machine.proofs.Bounds.{moves-below, length-below}
 use Rattle.machine.proofs.corner.junction_cap.Statement.{statement}
 use Rattle.machine.proofs.corner.junction_cap.Tie as tie
-
-numbers-requires : tie.Need-numbers-requires
-numbers-requires c κs = search needs
-
-numbers-requires-2 : tie.Need-numbers-requires-2
-numbers-requires-2 c κs = search needs
-
-smaller-requires : tie.Need-smaller-requires
-smaller-requires c κs = search needs
 
 -- a block that passes 2 to 6 has short moves, and a length of its numbers that is short too
 short-moves : (b : Block) → blockRefusal b ≡ 0 → AxesBelow (2 ^ 21) (movesOf b)
@@ -53,4 +44,4 @@ returns c =
     c .under-corner .ensures ∙ (λ i. joined (a .l) (a .a) (a .b) ((c .before .smaller .ensures ∙ (λ j. min (n j .cap) (m j .cap))) i) (n i) (m i))
 
 pub junction-cap-spec : {M : Type 1} → statement M
-junction-cap-spec = tie.close (tie.spec numbers-requires numbers-requires-2 smaller-requires under-corner-requires returns)
+junction-cap-spec = tie.close (tie.spec (λ c κs. search needs) (λ c κs. search needs) (λ c κs. search needs) under-corner-requires returns)

@@ -1,4 +1,4 @@
--- `machine::corner::turn` meets its contract, from the gap. Assumes nothing.
+-- `machine::corner::turn` meets its contract, from the gap.
 use mathlib.Core.Path.{ap, _∙_}
 use Prim.Native.Nat.{_*_, _^_, _<_}
 use borrow.Author.Needs.{needs}
@@ -21,9 +21,6 @@ dot-small c = let s = c .before in rw (c .dot .ensures) (dot-below (s .args .a) 
 times-requires : tie.Need-times-requires
 times-requires c κs = omega (arith, ap natAbs (small-back (c .dot .result) (omega (arith, dot-small c))), dot-small c)
 
-gap-requires : tie.Need-gap-requires
-gap-requires c κs = search needs
-
 returns : tie.Need-returns
 unfolding turnFrom
 returns c =
@@ -34,4 +31,4 @@ returns c =
     c .gap .ensures ∙ ap (gapOf (s .args .product)) (small-back (c .before .times .result) (omega arith) ∙ scaled)
 
 pub turn-spec : {M : Type 1} → statement M
-turn-spec = tie.close (tie.spec dot-requires times-requires gap-requires returns)
+turn-spec = tie.close (tie.spec dot-requires times-requires (λ c κs. search needs) returns)

@@ -1,4 +1,4 @@
--- `machine::corner::under_corner` meets its contract: the product with the square of the jump goes to the capped quotient whole. Assumes nothing.
+-- `machine::corner::under_corner` meets its contract: the product with the square of the jump goes to the capped quotient whole.
 use mathlib.Core.Path.{ap, _∙_}
 use Prim.Native.Nat.{ℕ, _*_, _^_, _-_, _<_}
 use borrow.Author.Needs.{needs}
@@ -27,9 +27,6 @@ mul-capped-quotient-2 c =
     let s = c .before in
     record { fits = omega (arith, c .turn .ensures, turn-below (s .args .length-a * s .args .length-b) (s .args .a) (s .args .b) (lengths s) (s .pre .3) (s .pre .4)) }
 
-capped-quotient-requires : tie.Need-capped-quotient-requires
-capped-quotient-requires c κs = search needs
-
 returns : tie.Need-returns
 returns c =
     let a = c .before .before .args in
@@ -38,4 +35,4 @@ returns c =
     ∙ corner-quotient (a .cap) (a .jump) (a .length-a * a .length-b) _
 
 pub under-corner-spec : {M : Type 1} → statement M
-under-corner-spec = tie.close (tie.spec mul-product mul-capped-quotient turn-requires mul-capped-quotient-2 capped-quotient-requires returns)
+under-corner-spec = tie.close (tie.spec mul-product mul-capped-quotient turn-requires mul-capped-quotient-2 (λ c κs. search needs) returns)

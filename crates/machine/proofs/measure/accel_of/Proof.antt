@@ -1,4 +1,4 @@
--- `machine::measure::accel_of` meets its contract: the product fits. Assumes nothing.
+-- `machine::measure::accel_of` meets its contract: the product fits.
 use mathlib.Core.Path.{ap, _∙_}
 use Prim.Native.Nat.{ℕ, _*_, _/_, _≤_, max}
 use borrow.Author.Needs.{needs}
@@ -8,17 +8,11 @@ use Rattle.machine.specs.Ranges.{mostAccel}
 use Rattle.machine.proofs.measure.accel_of.Statement.{statement}
 use Rattle.machine.proofs.measure.accel_of.Tie as tie
 
-torque-percent-requires : tie.Need-torque-percent-requires
-torque-percent-requires c κs = search needs
-
 product : (c : tie.After-torque-percent) → c .before .args .most * c .torque-percent .result ≤ 2 * mostAccel * 255
 product c = mul-le-mul {n₂ = 2 * mostAccel} {m₂ = 255} (c .before .pre .0) (omega arith)
 
 mul-larger : tie.Need-mul-larger
 mul-larger c = record { fits = omega (arith, product c) }
-
-larger-requires : tie.Need-larger-requires
-larger-requires c κs = search needs
 
 returns : tie.Need-returns
 returns c = (
@@ -27,4 +21,4 @@ returns c = (
 )
 
 pub accel-of-spec : {M : Type 1} → statement M
-accel-of-spec = tie.close (tie.spec torque-percent-requires mul-larger larger-requires returns)
+accel-of-spec = tie.close (tie.spec (λ c κs. search needs) mul-larger (λ c κs. search needs) returns)

@@ -1,4 +1,4 @@
--- `machine::measure::axis_limit` meets its contract: the test decides whether the cap or the quotient is the answer. Assumes nothing.
+-- `machine::measure::axis_limit` meets its contract: the test decides whether the cap or the quotient is the answer.
 use Prim.Native.Nat.{_*_}
 use borrow.Author.Needs.{needs}
 use native.Mathlib.Omega.{arith}
@@ -9,9 +9,6 @@ use Rattle.machine.proofs.measure.axis_limit.Tie as tie
 
 mul-most : tie.Need-mul-most
 mul-most c = record { fits = omega (arith, half-product (c .pre .1) (c .pre .2)) }
-
-mul-part : tie.Need-mul-part
-mul-part c = search needs
 
 mul-if1 : tie.Need-mul-if1
 mul-if1 c = record { fits = omega (arith, half-product {x = c .args .cap} {y = 1 * c .args .step} (c .pre .0) (omega arith)) }
@@ -26,4 +23,4 @@ returns-2 : tie.Need-returns-2
 returns-2 c = let a = c .before .args in axis-quotient (a .cap) (a .limit) (a .length) (a .step) (c .if1 .left)
 
 pub axis-limit-spec : {M : Type 1} → statement M
-axis-limit-spec = tie.close (tie.spec mul-most mul-part mul-if1 returns div-result returns-2)
+axis-limit-spec = tie.close (tie.spec mul-most (λ c. search needs) mul-if1 returns div-result returns-2)

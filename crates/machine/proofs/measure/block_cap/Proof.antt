@@ -1,4 +1,4 @@
--- `machine::measure::block_cap` meets its contract: no product passes 64 bits but the one that the quotient takes. Assumes nothing.
+-- `machine::measure::block_cap` meets its contract: no product passes 64 bits but the one that the quotient takes.
 use mathlib.Core.Path.{sym, _∙_}
 use Prim.Native.Nat.{_*_, _^_, _-_}
 use borrow.Author.Needs.{needs}
@@ -18,9 +18,6 @@ returns : tie.Need-returns
 unfolding blockCapFrom
 returns c = simp (eq-eqb _ _ (c .if1 .taken))
 
-mul-capped-quotient : tie.Need-mul-capped-quotient
-mul-capped-quotient c = search needs
-
 mul-capped-quotient-2 : tie.Need-mul-capped-quotient-2
 mul-capped-quotient-2 c =
     let s = c .before .before in
@@ -29,12 +26,9 @@ mul-capped-quotient-2 c =
 mul-capped-quotient-3 : tie.Need-mul-capped-quotient-3
 mul-capped-quotient-3 c = let s = c .before .before .before in record { fits = omega (arith, half-product (s .pre .0 .4) (s .pre .0 .4)) }
 
-capped-quotient-requires : tie.Need-capped-quotient-requires
-capped-quotient-requires c κs = search needs
-
 returns-2 : tie.Need-returns-2
 unfolding blockCapFrom chordFactor
 returns-2 c = c .capped-quotient .ensures ∙ sym (simp (ne-eqb _ _ (c .before .before .before .if1 .left)))
 
 pub block-cap-spec : {M : Type 1} → statement M
-block-cap-spec = tie.close (tie.spec mul-square returns mul-capped-quotient mul-capped-quotient-2 mul-capped-quotient-3 capped-quotient-requires returns-2)
+block-cap-spec = tie.close (tie.spec mul-square returns (λ c. search needs) mul-capped-quotient-2 mul-capped-quotient-3 (λ c κs. search needs) returns-2)

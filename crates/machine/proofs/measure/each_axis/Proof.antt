@@ -1,4 +1,4 @@
--- `machine::measure::each_axis` meets its contract, axis by axis. Assumes nothing.
+-- `machine::measure::each_axis` meets its contract, axis by axis.
 use mathlib.Core.Path.{ap, _∙_}
 use Prim.Native.Nat.{ℕ, _^_, _<_}
 use native.Mathlib.Omega.{arith}

@@ -1,19 +1,10 @@
--- `machine::measure::moves_of` meets its contract, from the magnitudes. Assumes nothing.
+-- `machine::measure::moves_of` meets its contract, from the magnitudes.
 use mathlib.Core.Path.{ap, _∙_}
 use borrow.Author.Needs.{needs}
 use lib.IntN.{natAbs}
 use Rattle.arith.proofs.SignedLaws.{field-back}
 use Rattle.machine.proofs.measure.moves_of.Statement.{statement}
 use Rattle.machine.proofs.measure.moves_of.Tie as tie
-
-magnitude-requires : tie.Need-magnitude-requires
-magnitude-requires c κs = search needs
-
-magnitude-requires-2 : tie.Need-magnitude-requires-2
-magnitude-requires-2 c κs = search needs
-
-magnitude-requires-3 : tie.Need-magnitude-requires-3
-magnitude-requires-3 c κs = search needs
 
 returns : tie.Need-returns
 returns c =
@@ -28,4 +19,4 @@ returns c =
     }
 
 pub moves-of-spec : {M : Type 1} → statement M
-moves-of-spec = tie.close (tie.spec magnitude-requires magnitude-requires-2 magnitude-requires-3 returns)
+moves-of-spec = tie.close (tie.spec (λ c κs. search needs) (λ c κs. search needs) (λ c κs. search needs) returns)

@@ -1,6 +1,6 @@
--- `machine::measure::numbers` meets its contract, from what its parts ensure and how large they are. Assumes nothing.
+-- `machine::measure::numbers` meets its contract, from what its parts ensure and how large they are.
 use mathlib.Core.Path.{ap, _∙_}
-use Prim.Native.Nat.{_*_, _/_, _^_, _-_, _≤_, _<_, max}
+use Prim.Native.Nat.{_*_, _/_, _^_, _≤_, _<_, max}
 use borrow.Author.Needs.{needs}
 use native.Mathlib.Omega.{arith}
 use lib.Dec.{lit<}
@@ -11,9 +11,6 @@ use Rattle.machine.proofs.Bounds.{in-range, moves-below, length-below}
 use Rattle.machine.proofs.Limited.{each-below}
 use Rattle.machine.proofs.measure.numbers.Statement.{statement}
 use Rattle.machine.proofs.measure.numbers.Tie as tie
-
-moves-of-requires : tie.Need-moves-of-requires
-moves-of-requires c κs = search needs
 
 small-moves : (c : tie.After-moves-of) → AxesBelow (2 ^ 20) (c .moves-of .result)
 small-moves c = rw (c .moves-of .ensures) (moves-below (c .before .args .b) (c .before .pre .1))
@@ -35,9 +32,6 @@ small-speed c =
     let m = c .before .before .before in
     let s = m .before in
     omega (arith, c .each-axis .ensures, each-below (s .args .b .feed) (s .args .l .speed) (c .before .before .length-of .result) (m .moves-of .result), in-range (s .args .b) (s .pre .1) .feed-below)
-
-mul-each-axis : tie.Need-mul-each-axis
-mul-each-axis c = search needs
 
 each-axis-requires-2 : tie.Need-each-axis-requires-2
 each-axis-requires-2 c κs =
@@ -83,4 +77,4 @@ returns c =
     λ i. record { length = len i; accel = accel i; reach = 2 * accel i * len i / unit; cap = (c .block-cap .ensures ∙ ap (blockCapFrom l (b .radius)) speed) i }
 
 pub numbers-spec : {M : Type 1} → statement M
-numbers-spec = tie.close (tie.spec moves-of-requires length-of-requires each-axis-requires mul-each-axis each-axis-requires-2 accel-of-requires mul-t9 mul-t10 block-cap-requires returns)
+numbers-spec = tie.close (tie.spec (λ c κs. search needs) length-of-requires each-axis-requires (λ c. search needs) each-axis-requires-2 accel-of-requires mul-t9 mul-t10 block-cap-requires returns)

@@ -1,27 +1,16 @@
--- `planner::ring::add_in`: one law for each way out. Assumes nothing.
+-- `planner::ring::add_in`: one law for each way out.
 use mathlib.Core.Path.{_≡_, sym, ap, _∙_}
 use borrow.Author.Needs.{needs}
-use Rattle.machine.specs.Checks.{refusalNumber, checkedNumber, blockRefusal}
+use Rattle.machine.specs.Checks.{blockRefusal}
 use Rattle.planner.specs.View.{viewOf}
-use Rattle.machine.proofs.AnswerLaws.{refusal-above}
+use Rattle.display.specs.Display.{refusalNumber, checkedMeans}
+use Rattle.display.proofs.Answers.{refusal-above}
 use Rattle.planner.proofs.Outcomes.{add-refused, add-full, add-put}
 use Rattle.planner.proofs.ring.add_in.Statement.{statement}
 use Rattle.planner.proofs.ring.add_in.Tie as tie
 
-check-block-requires : tie.Need-check-block-requires
-check-block-requires c κs = search needs
-
-enum-known-r : tie.Need-enum-known-r
-enum-known-r c = search needs
-
-enum-told : tie.Need-enum-told
-enum-told c = search needs
-
 passed : (c : tie.After-enum-told) → 0 ≡ blockRefusal (c .before .before .before .before .args .b)
-passed c = sym (ap checkedNumber (c .enum-told .given .1)) ∙ c .before .before .check-block .ensures
-
-slice-read-if1 : tie.Need-slice-read-if1
-slice-read-if1 c = search needs
+passed c = sym (ap checkedMeans (c .enum-told .given .1)) ∙ c .before .before .check-block .ensures
 
 returns : tie.Need-returns
 unfolding viewOf
@@ -43,10 +32,7 @@ returns-2 c =
     let k = r .before .before in
     let s = k .before .before in
     add-refused (s .args .memory .now) (s .args .b) (s .pre) (refusalNumber (r .r .given .0 .0)) (refusal-above (r .r .given .0 .0))
-    (ap checkedNumber (sym (r .r .given .1)) ∙ k .check-block .ensures)
-
-same-length : tie.Need-same-length
-same-length c = search needs
+    (ap checkedMeans (sym (r .r .given .1)) ∙ k .check-block .ensures)
 
 returns-3 : tie.Need-returns-3
 unfolding viewOf
@@ -58,4 +44,4 @@ returns-3 c =
 
 pub add-in-spec : {M : Type 1} → statement M
 add-in-spec =
-    tie.close (tie.spec check-block-requires enum-known-r enum-told slice-read-if1 returns put-last-requires returns-2 same-length returns-3)
+    tie.close (tie.spec (λ c κs. search needs) (λ c. search needs) (λ c. search needs) (λ c. search needs) returns put-last-requires returns-2 (λ c. search needs) returns-3)

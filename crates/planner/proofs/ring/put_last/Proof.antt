@@ -1,4 +1,4 @@
--- `planner::ring::put_last`: the place, the count and the walk back together, from `put-is`. Assumes nothing.
+-- `planner::ring::put_last`: the place, the count and the walk back together, from `put-is`.
 use mathlib.Core.Path.{_≡_, _∙_}
 use Prim.Native.Nat.{_^_, _<_}
 use borrow.Author.Needs.{needs}
@@ -11,7 +11,7 @@ use Rattle.machine.specs.declared.Block.{Block}
 use Rattle.line.specs.Ring.{placeOf}
 use Rattle.machine.specs.Lists.{limitsFrom}
 use Rattle.planner.specs.View.{memorySize, numbersFor, viewOf}
-use Rattle.planner.proofs.Steps.{limits-below, still-sized, put-is}
+use Rattle.planner.proofs.Passes.{limits-below, still-sized, put-is}
 use Rattle.planner.proofs.ring.put_last.Statement.{statement}
 use Rattle.planner.proofs.ring.put_last.Tie as tie
 
@@ -26,9 +26,6 @@ stored c =
     let s = n .before .before .before .before in
     still-sized (s .args .memory .now) (c .store-place .last .0) (p .place .result) (numbersFor (placeOf (s .args .b) (n .numbers .result) (j .new-junction .result)))
     (s .pre .0) (c .store-place .ensures)
-
-limits-in-requires : tie.Need-limits-in-requires
-limits-in-requires c κs = search needs
 
 numbers-requires : tie.Need-numbers-requires
 unfolding viewOf
@@ -45,32 +42,14 @@ new-junction-requires c κs =
     let moves = moves-below b (s .pre .1) in
     (s .pre .0, rw (n .before .limits-in .ensures) (limits-below (limitsFrom (s .args .memory .now)) .2), rw (n .numbers .ensures) (short b moves), (omega arith, omega arith, omega arith))
 
-slice-read-count : tie.Need-slice-read-count
-slice-read-count c = search needs
-
-slice-read-place : tie.Need-slice-read-place
-slice-read-place c = search needs
-
-place-requires : tie.Need-place-requires
-place-requires c κs = search needs
-
-store-place-requires : tie.Need-store-place-requires
-store-place-requires c κs = search needs
-
 add-memory : tie.Need-add-memory
 unfolding viewOf
 add-memory c =
     let s = c .before .before .before .before .before .before .before .before .before .before .before .before .before in
     record { fits = omega (arith, s .pre .2) }
 
-slice-write-memory : tie.Need-slice-write-memory
-slice-write-memory c = search needs
-
 walk-back-requires : tie.Need-walk-back-requires
 walk-back-requires c κs = simp length-set (stored (c .before .before .before))
-
-same-length : tie.Need-same-length
-same-length c = search needs
 
 returns : tie.Need-returns
 unfolding viewOf
@@ -91,4 +70,4 @@ returns c =
 
 pub put-last-spec : {M : Type 1} → statement M
 put-last-spec =
-    tie.close (tie.spec limits-in-requires numbers-requires new-junction-requires slice-read-count slice-read-place place-requires store-place-requires add-memory slice-write-memory walk-back-requires same-length returns)
+    tie.close (tie.spec (λ c κs. search needs) numbers-requires new-junction-requires (λ c. search needs) (λ c. search needs) (λ c κs. search needs) (λ c κs. search needs) add-memory (λ c. search needs) walk-back-requires (λ c. search needs) returns)

@@ -1,4 +1,4 @@
--- `planner::ring::show`: what is stored and what is still to be shown are the plan. Assumes nothing.
+-- `planner::ring::show`: what is stored and what is still to be shown are the plan.
 use mathlib.Core.List.{_++_}
 use mathlib.Core.Path.{_≡_, sym, ap, _∙_}
 use Prim.Native.Nat.{_+_, _-_, _≤_}
@@ -9,7 +9,7 @@ use Rattle.line.specs.Ring.{Place, speedsFrom}
 use Rattle.planner.specs.Calls.{exitIn}
 use Rattle.planner.specs.View.{placeFrom, viewOf}
 use Rattle.planner.proofs.View.{ring-place}
-use Rattle.planner.proofs.Steps.{shows-first, shows-next, shows-last}
+use Rattle.planner.proofs.Passes.{shows-first, shows-next, shows-last}
 use Rattle.planner.proofs.ring.show.Statement.{statement}
 use Rattle.planner.proofs.ring.show.Tie as tie
 
@@ -20,35 +20,11 @@ Inv-loop memory list₀ n first entry₀ k₀ list entry k =
 abbrev μ-loop : tie.MeasureT-loop
 μ-loop memory list₀ n first entry₀ k₀ list entry k = n - k
 
-shared-slice-read-first : tie.Need-shared-slice-read-first Inv-loop μ-loop
-shared-slice-read-first c = search needs
-
-shared-slice-read-entry : tie.Need-shared-slice-read-entry Inv-loop μ-loop
-shared-slice-read-entry c = search needs
-
 loop-holds : tie.Need-loop-holds Inv-loop μ-loop
 unfolding viewOf
 loop-holds c =
     let s = c .before .before .before .before in
     (omega arith, s .pre .1, shows-first (viewOf (s .args .memory .now)) (s .args .list .now) (s .args .n) (viewOf (s .args .memory .now) .committed))
-
-mul-list : tie.Need-mul-list Inv-loop μ-loop
-mul-list c = search needs
-
-slice-write-list : tie.Need-slice-write-list Inv-loop μ-loop
-slice-write-list c = search needs
-
-place-requires : tie.Need-place-requires Inv-loop μ-loop
-place-requires c κs = search needs
-
-exit-at-requires : tie.Need-exit-at-requires Inv-loop μ-loop
-exit-at-requires c κs = search needs
-
-add-k : tie.Need-add-k Inv-loop μ-loop
-add-k c = search needs
-
-loop-less : tie.Need-loop-less Inv-loop μ-loop
-loop-less c = search needs
 
 loop-again : tie.Need-loop-again Inv-loop μ-loop
 unfolding viewOf
@@ -65,12 +41,6 @@ loop-again c =
           ∙ w .loop .inv .2,
     )
 
-mul-list-2 : tie.Need-mul-list-2 Inv-loop μ-loop
-mul-list-2 c = search needs
-
-slice-write-list-2 : tie.Need-slice-write-list-2 Inv-loop μ-loop
-slice-write-list-2 c = search needs
-
 same-length : tie.Need-same-length Inv-loop μ-loop
 same-length c = simp length-set (omega arith)
 
@@ -83,4 +53,4 @@ returns c =
 
 pub show-spec : {M : Type 1} → statement M
 show-spec =
-    tie.close (tie.spec Inv-loop μ-loop shared-slice-read-first shared-slice-read-entry loop-holds mul-list slice-write-list place-requires exit-at-requires add-k loop-less loop-again mul-list-2 slice-write-list-2 same-length returns)
+    tie.close (tie.spec Inv-loop μ-loop (λ c. search needs) (λ c. search needs) loop-holds (λ c. search needs) (λ c. search needs) (λ c κs. search needs) (λ c κs. search needs) (λ c. search needs) (λ c. search needs) loop-again (λ c. search needs) (λ c. search needs) same-length returns)

@@ -1,4 +1,4 @@
--- `planner::ring::show_in`: one law for each way out. Assumes nothing.
+-- `planner::ring::show_in`: one law for each way out.
 use mathlib.Core.Path.{sym, ap, _∙_}
 use Prim.Native.Nat.{ℕ, _+_}
 use borrow.Author.Needs.{needs}
@@ -7,18 +7,6 @@ use Rattle.planner.specs.View.{viewOf}
 use Rattle.planner.proofs.Outcomes.{shown-all, shown-none}
 use Rattle.planner.proofs.ring.show_in.Statement.{statement}
 use Rattle.planner.proofs.ring.show_in.Tie as tie
-
-told-in-requires : tie.Need-told-in-requires
-told-in-requires c κs = search needs
-
-add-if1 : tie.Need-add-if1
-add-if1 c = search needs
-
-show-requires : tie.Need-show-requires
-show-requires c κs = search needs
-
-same-length : tie.Need-same-length
-same-length c = search needs
 
 returns : tie.Need-returns
 returns c =
@@ -37,4 +25,4 @@ returns-2 c =
 
 pub show-in-spec : {M : Type 1} → statement M
 show-in-spec =
-    tie.close (tie.spec told-in-requires add-if1 show-requires same-length returns returns-2)
+    tie.close (tie.spec (λ c κs. search needs) (λ c. search needs) (λ c κs. search needs) (λ c. search needs) returns returns-2)

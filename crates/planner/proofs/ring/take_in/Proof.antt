@@ -1,13 +1,10 @@
--- `planner::ring::take_in`: one law for each way out. Assumes nothing.
+-- `planner::ring::take_in`: one law for each way out.
 use Prim.Native.Nat.{_<_}
 use borrow.Author.Needs.{needs}
 use Rattle.planner.specs.View.{viewOf}
 use Rattle.planner.proofs.Outcomes.{take-refused, take-gave}
 use Rattle.planner.proofs.ring.take_in.Statement.{statement}
 use Rattle.planner.proofs.ring.take_in.Tie as tie
-
-slice-read-if1 : tie.Need-slice-read-if1
-slice-read-if1 c = search needs
 
 returns : tie.Need-returns
 unfolding viewOf
@@ -21,9 +18,6 @@ held : (c : tie.After-give-first-arg) → 0 < viewOf (c .before .before .before 
 unfolding viewOf
 held c = let some = c .before .if1 .left in search needs
 
-same-length : tie.Need-same-length
-same-length c = search needs
-
 returns-2 : tie.Need-returns-2
 returns-2 c =
     let g = c .before .before in
@@ -32,4 +26,4 @@ returns-2 c =
 
 pub take-in-spec : {M : Type 1} → statement M
 take-in-spec =
-    tie.close (tie.spec slice-read-if1 returns give-first-requires same-length returns-2)
+    tie.close (tie.spec (λ c. search needs) returns give-first-requires (λ c. search needs) returns-2)

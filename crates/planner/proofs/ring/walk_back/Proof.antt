@@ -1,4 +1,4 @@
--- `planner::ring::walk_back`: the walk that is left leads to the end of the whole walk. Assumes nothing.
+-- `planner::ring::walk_back`: the walk that is left leads to the end of the whole walk.
 use mathlib.Core.Path.{_≡_, refl, sym, ap, _∙_}
 use Prim.Native.Nat.{ℕ, _+_, _-_, _%_, _≤_}
 use borrow.Author.Needs.{needs}
@@ -8,21 +8,21 @@ use lib.Seq.{getD-set-same}
 use Rattle.line.specs.Blocks.{mostHeld}
 use Rattle.line.specs.Ring.{slot, walkBack}
 use Rattle.planner.specs.View.{memorySize, baseOf, placeFrom, viewOf}
-use Rattle.planner.proofs.Steps.{begins-before, walk-ends, walk-goes-on, walk-first}
+use Rattle.planner.proofs.Passes.{begins-before, walk-ends, walk-goes-on, walk-first}
 use Rattle.planner.proofs.ring.walk_back.Tie as tie
 use Rattle.planner.proofs.ring.walk_back.Statement.{statement}
 
 abbrev Inv-loop : tie.InvT-loop
-Inv-loop memory₀ count k₀ after₀ limit₀ memory k after limit =
+Inv-loop memory₀ count k₀ after₀ brake₀ memory k after brake =
     (length memory ≡ memorySize)
     × (after ≤ 768)
     × (after ≡ baseOf (slot (viewOf memory) k))
     × (k ≤ count)
     × (walkBack k (viewOf memory) ≡ walkBack count (viewOf memory₀))
-    × (limit ≡ placeFrom memory after .limit)
+    × (brake ≡ placeFrom memory after .brake)
 
 abbrev μ-loop : tie.MeasureT-loop
-μ-loop memory₀ count k₀ after₀ limit₀ memory k after limit = k
+μ-loop memory₀ count k₀ after₀ brake₀ memory k after brake = k
 
 -- where the block before begins
 module _ (c : tie.After-place-before Inv-loop μ-loop) where
@@ -35,21 +35,6 @@ module _ (c : tie.After-place-before Inv-loop μ-loop) where
   within : c .place-before .result ≤ 768
   within = omega (arith, at-is)
 
-slice-read-place : tie.Need-slice-read-place Inv-loop μ-loop
-slice-read-place c = search needs
-
-place-requires : tie.Need-place-requires Inv-loop μ-loop
-place-requires c κs = search needs
-
-add-limit : tie.Need-add-limit Inv-loop μ-loop
-add-limit c = search needs
-
-mul-limit : tie.Need-mul-limit Inv-loop μ-loop
-mul-limit c = search needs
-
-slice-read-limit : tie.Need-slice-read-limit Inv-loop μ-loop
-slice-read-limit c = search needs
-
 loop-holds : tie.Need-loop-holds Inv-loop μ-loop
 unfolding viewOf placeFrom
 loop-holds c =
@@ -59,12 +44,6 @@ loop-holds c =
 brake-at-requires : tie.Need-brake-at-requires Inv-loop μ-loop
 brake-at-requires c κs = let inv = c .before .before .loop .inv in (inv .0, inv .1, inv .5)
 
-sub-k : tie.Need-sub-k Inv-loop μ-loop
-sub-k c = search needs
-
-place-before-requires : tie.Need-place-before-requires Inv-loop μ-loop
-place-before-requires c κs = search needs
-
 add-if1 : tie.Need-add-if1 Inv-loop μ-loop
 add-if1 c = record { fits = omega (arith, within c) }
 
@@ -73,9 +52,6 @@ mul-if1 c = record { fits = omega (arith, within c) }
 
 slice-read-if1 : tie.Need-slice-read-if1 Inv-loop μ-loop
 slice-read-if1 c = omega (arith, within (c .before))
-
-same-length : tie.Need-same-length Inv-loop μ-loop
-same-length c = search needs
 
 returns : tie.Need-returns Inv-loop μ-loop
 returns c =
@@ -96,9 +72,6 @@ mul-memory c = record { fits = omega (arith, within (c .before .before)) }
 slice-write-memory : tie.Need-slice-write-memory Inv-loop μ-loop
 slice-write-memory c = omega (arith, within (c .before .before))
 
-loop-less : tie.Need-loop-less Inv-loop μ-loop
-loop-less c = search needs
-
 loop-again : tie.Need-loop-again Inv-loop μ-loop
 unfolding placeFrom
 loop-again c =
@@ -116,9 +89,6 @@ loop-again c =
       sym (getD-set-same (w .loop .memory) (d .place-before .result + 11) _ 0 (omega (arith, within d, inv .0))),
     )
 
-same-length-2 : tie.Need-same-length-2 Inv-loop μ-loop
-same-length-2 c = search needs
-
 returns-2 : tie.Need-returns-2 Inv-loop μ-loop
 unfolding walkBack
 returns-2 c =
@@ -127,4 +97,4 @@ returns-2 c =
 
 pub walk-back-spec : {M : Type 1} → statement M
 walk-back-spec =
-    tie.close (tie.spec Inv-loop μ-loop slice-read-place place-requires add-limit mul-limit slice-read-limit loop-holds brake-at-requires sub-k place-before-requires add-if1 mul-if1 slice-read-if1 same-length returns add-memory mul-memory slice-write-memory loop-less loop-again same-length-2 returns-2)
+    tie.close (tie.spec Inv-loop μ-loop (λ c. search needs) (λ c κs. search needs) (λ c. search needs) (λ c. search needs) (λ c. search needs) loop-holds brake-at-requires (λ c. search needs) (λ c κs. search needs) add-if1 mul-if1 slice-read-if1 (λ c. search needs) returns add-memory mul-memory slice-write-memory (λ c. search needs) loop-again (λ c. search needs) returns-2)

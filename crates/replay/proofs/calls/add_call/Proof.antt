@@ -1,4 +1,4 @@
--- `replay::calls::add_call` meets its contract: the promise of `add`, with the answer as a row. Assumes nothing.
+-- `replay::calls::add_call` meets its contract: the promise of `add`, with the answer as a row.
 use mathlib.Core.Path.{sym, ap, _∙_}
 use Rattle.line.specs.Answers.{addMeans}
 use Rattle.line.specs.declared.AddAnswer.{AddAnswer}
@@ -8,33 +8,6 @@ use borrow.Author.Needs.{needs}
 use Rattle.replay.proofs.calls.add_call.Statement.{statement}
 use Rattle.replay.proofs.calls.add_call.Tie as tie
 
-add-requires : tie.Need-add-requires
-add-requires c κs = search needs
-
-enum-told : tie.Need-enum-told
-enum-told c = search needs
-
-none-given-requires : tie.Need-none-given-requires
-none-given-requires c κs = search needs
-
-write-row-requires : tie.Need-write-row-requires
-write-row-requires c κs = search needs
-
-enum-known-why : tie.Need-enum-known-why
-enum-known-why c = search needs
-
-refusal-number-requires : tie.Need-refusal-number-requires
-refusal-number-requires c κs = search needs
-
-none-given-requires-2 : tie.Need-none-given-requires-2
-none-given-requires-2 c κs = search needs
-
-write-row-requires-2 : tie.Need-write-row-requires-2
-write-row-requires-2 c κs = search needs
-
-same-length : tie.Need-same-length
-same-length c = search needs
-
 returns : tie.Need-returns
 unfolding rowOf
 returns c =
@@ -43,9 +16,6 @@ returns c =
     let e = n .before in
     let a = e .before .before in
     stepped (a .add .ensures) (w .write-row .ensures ∙ ap (rowFrom 0) (n .none-given .ensures) ∙ ap (λ (x : AddAnswer). rowOf (addMeans x)) (sym (e .enum-told .given .1)))
-
-same-length-2 : tie.Need-same-length-2
-same-length-2 c = search needs
 
 returns-2 : tie.Need-returns-2
 unfolding rowOf
@@ -62,15 +32,15 @@ pub add-call-spec : {M : Type 1} → statement M
 add-call-spec =
     tie.close
     (tie.spec
-    add-requires
-    enum-told
-    none-given-requires
-    write-row-requires
-    enum-known-why
-    refusal-number-requires
-    none-given-requires-2
-    write-row-requires-2
-    same-length
+    (λ c κs. search needs)
+    (λ c. search needs)
+    (λ c κs. search needs)
+    (λ c κs. search needs)
+    (λ c. search needs)
+    (λ c κs. search needs)
+    (λ c κs. search needs)
+    (λ c κs. search needs)
+    (λ c. search needs)
     returns
-    same-length-2
+    (λ c. search needs)
     returns-2)

@@ -1,4 +1,4 @@
--- `replay::calls::decode_block` meets its contract: each field is a word. From what `read_field` and `to_signed` ensure. Assumes nothing.
+-- `replay::calls::decode_block` meets its contract: each field is a word. From what `read_field` and `to_signed` ensure.
 use mathlib.Core.Path.{ap, _∙_}
 use mir.Syntax.{w64}
 use mir.Facts.{toZ-ofZ}
@@ -7,33 +7,6 @@ use Rattle.replay.specs.Trace.{blockOf, wordBits}
 use borrow.Author.Needs.{needs}
 use Rattle.replay.proofs.calls.decode_block.Statement.{statement}
 use Rattle.replay.proofs.calls.decode_block.Tie as tie
-
-read-field-requires : tie.Need-read-field-requires
-read-field-requires c κs = search needs
-
-read-field-requires-2 : tie.Need-read-field-requires-2
-read-field-requires-2 c κs = search needs
-
-read-field-requires-3 : tie.Need-read-field-requires-3
-read-field-requires-3 c κs = search needs
-
-to-signed-requires : tie.Need-to-signed-requires
-to-signed-requires c κs = search needs
-
-to-signed-requires-2 : tie.Need-to-signed-requires-2
-to-signed-requires-2 c κs = search needs
-
-to-signed-requires-3 : tie.Need-to-signed-requires-3
-to-signed-requires-3 c κs = search needs
-
-read-field-requires-4 : tie.Need-read-field-requires-4
-read-field-requires-4 c κs = search needs
-
-read-field-requires-5 : tie.Need-read-field-requires-5
-read-field-requires-5 c κs = search needs
-
-read-field-requires-6 : tie.Need-read-field-requires-6
-read-field-requires-6 c κs = search needs
 
 returns : tie.Need-returns
 unfolding blockOf
@@ -59,13 +32,13 @@ pub decode-block-spec : {M : Type 1} → statement M
 decode-block-spec =
     tie.close
     (tie.spec
-    read-field-requires
-    read-field-requires-2
-    read-field-requires-3
-    to-signed-requires
-    to-signed-requires-2
-    to-signed-requires-3
-    read-field-requires-4
-    read-field-requires-5
-    read-field-requires-6
+    (λ c κs. search needs)
+    (λ c κs. search needs)
+    (λ c κs. search needs)
+    (λ c κs. search needs)
+    (λ c κs. search needs)
+    (λ c κs. search needs)
+    (λ c κs. search needs)
+    (λ c κs. search needs)
+    (λ c κs. search needs)
     returns)

@@ -1,33 +1,15 @@
--- `replay::calls::step` meets its contract: the kind decides. Assumes nothing.
+-- `replay::calls::step` meets its contract: the kind decides.
 use mathlib.Core.Path.{sym, _∙_}
 use Rattle.replay.proofs.Runs.{call-take, call-add}
 use borrow.Author.Needs.{needs}
 use Rattle.replay.proofs.calls.step.Statement.{statement}
 use Rattle.replay.proofs.calls.step.Tie as tie
 
-kind-of-requires : tie.Need-kind-of-requires
-kind-of-requires c κs = search needs
-
-take-call-requires : tie.Need-take-call-requires
-take-call-requires c κs = search needs
-
-decode-block-requires : tie.Need-decode-block-requires
-decode-block-requires c κs = search needs
-
-add-call-requires : tie.Need-add-call-requires
-add-call-requires c κs = search needs
-
-same-length : tie.Need-same-length
-same-length c = search needs
-
 returns : tie.Need-returns
 returns c =
     let t = c .before .before in
     let k = t .before .before .before in
     rw (call-take (k .before .before .before .before .args .bytes .now) (sym (k .before .kind-of .ensures) ∙ k .if1 .taken)) (t .take-call .ensures)
-
-same-length-2 : tie.Need-same-length-2
-same-length-2 c = search needs
 
 returns-2 : tie.Need-returns-2
 returns-2 c =
@@ -40,11 +22,11 @@ pub step-spec : {M : Type 1} → statement M
 step-spec =
     tie.close
     (tie.spec
-    kind-of-requires
-    take-call-requires
-    decode-block-requires
-    add-call-requires
-    same-length
+    (λ c κs. search needs)
+    (λ c κs. search needs)
+    (λ c κs. search needs)
+    (λ c κs. search needs)
+    (λ c. search needs)
     returns
-    same-length-2
+    (λ c. search needs)
     returns-2)

@@ -1,4 +1,4 @@
--- `replay::calls::write_row` meets its contract: the row is stored whole. From what `to_bits` ensures. Assumes nothing.
+-- `replay::calls::write_row` meets its contract: the row is stored whole. From what `to_bits` ensures.
 use mathlib.Core.List.{_∷_}
 use mathlib.Core.Path.{ap, _∙_}
 use native.Mathlib.Omega.{arith}
@@ -12,27 +12,6 @@ use Rattle.planner.proofs.View.{sets-all}
 use borrow.Author.Needs.{needs}
 use Rattle.replay.proofs.calls.write_row.Statement.{statement}
 use Rattle.replay.proofs.calls.write_row.Tie as tie
-
-slice-write-row : tie.Need-slice-write-row
-slice-write-row c = search needs
-
-to-bits-requires : tie.Need-to-bits-requires
-to-bits-requires c κs = search needs
-
-slice-write-row-2 : tie.Need-slice-write-row-2
-slice-write-row-2 c = search needs
-
-to-bits-requires-2 : tie.Need-to-bits-requires-2
-to-bits-requires-2 c κs = search needs
-
-slice-write-row-3 : tie.Need-slice-write-row-3
-slice-write-row-3 c = search needs
-
-to-bits-requires-3 : tie.Need-to-bits-requires-3
-to-bits-requires-3 c κs = search needs
-
-slice-write-row-4 : tie.Need-slice-write-row-4
-slice-write-row-4 c = search needs
 
 slice-write-row-5 : tie.Need-slice-write-row-5
 slice-write-row-5 c = simp length-set (omega arith)
@@ -89,13 +68,13 @@ pub write-row-spec : {M : Type 1} → statement M
 write-row-spec =
     tie.close
     (tie.spec
-    slice-write-row
-    to-bits-requires
-    slice-write-row-2
-    to-bits-requires-2
-    slice-write-row-3
-    to-bits-requires-3
-    slice-write-row-4
+    (λ c. search needs)
+    (λ c κs. search needs)
+    (λ c. search needs)
+    (λ c κs. search needs)
+    (λ c. search needs)
+    (λ c κs. search needs)
+    (λ c. search needs)
     slice-write-row-5
     slice-write-row-6
     slice-write-row-7

@@ -1,4 +1,4 @@
--- `tape::limits::decode_limits` meets its contract, from `limits-field`. Assumes nothing.
+-- `tape::limits::decode_limits` meets its contract, from `limits-field`.
 use mathlib.Core.Path.{_∙_}
 use Rattle.machine.specs.Lists.{limitsFrom}
 use Rattle.tape.specs.Tape.{limitsAt}
@@ -6,33 +6,6 @@ use Rattle.tape.proofs.Words.{limits-field}
 use borrow.Author.Needs.{needs}
 use Rattle.tape.proofs.limits.decode_limits.Statement.{statement}
 use Rattle.tape.proofs.limits.decode_limits.Tie as tie
-
-read-field-requires : tie.Need-read-field-requires
-read-field-requires c κs = search needs
-
-read-field-requires-2 : tie.Need-read-field-requires-2
-read-field-requires-2 c κs = search needs
-
-read-field-requires-3 : tie.Need-read-field-requires-3
-read-field-requires-3 c κs = search needs
-
-read-field-requires-4 : tie.Need-read-field-requires-4
-read-field-requires-4 c κs = search needs
-
-read-field-requires-5 : tie.Need-read-field-requires-5
-read-field-requires-5 c κs = search needs
-
-read-field-requires-6 : tie.Need-read-field-requires-6
-read-field-requires-6 c κs = search needs
-
-read-field-requires-7 : tie.Need-read-field-requires-7
-read-field-requires-7 c κs = search needs
-
-read-field-requires-8 : tie.Need-read-field-requires-8
-read-field-requires-8 c κs = search needs
-
-read-field-requires-9 : tie.Need-read-field-requires-9
-read-field-requires-9 c κs = search needs
 
 returns : tie.Need-returns
 unfolding limitsAt limitsFrom
@@ -61,13 +34,13 @@ pub decode-limits-spec : {M : Type 1} → statement M
 decode-limits-spec =
     tie.close
     (tie.spec
-    read-field-requires
-    read-field-requires-2
-    read-field-requires-3
-    read-field-requires-4
-    read-field-requires-5
-    read-field-requires-6
-    read-field-requires-7
-    read-field-requires-8
-    read-field-requires-9
+    (λ c κs. search needs)
+    (λ c κs. search needs)
+    (λ c κs. search needs)
+    (λ c κs. search needs)
+    (λ c κs. search needs)
+    (λ c κs. search needs)
+    (λ c κs. search needs)
+    (λ c κs. search needs)
+    (λ c κs. search needs)
     returns)

@@ -1,4 +1,4 @@
--- `tape::limits::store_limits` meets its contract: the three words are the limits' number, from `words-of-limits`. Assumes nothing.
+-- `tape::limits::store_limits` meets its contract: the three words are the limits' number, from `words-of-limits`.
 use mathlib.Core.Path.{ap, _∙_}
 use native.Mathlib.Omega.{arith}
 use Rattle.fields.specs.Bytes.{withBytes}
@@ -7,27 +7,6 @@ use Rattle.tape.proofs.Words.{words-of-limits}
 use borrow.Author.Needs.{needs}
 use Rattle.tape.proofs.limits.store_limits.Statement.{statement}
 use Rattle.tape.proofs.limits.store_limits.Tie as tie
-
-first-word-requires : tie.Need-first-word-requires
-first-word-requires c κs = search needs
-
-second-word-requires : tie.Need-second-word-requires
-second-word-requires c κs = search needs
-
-third-word-requires : tie.Need-third-word-requires
-third-word-requires c κs = search needs
-
-write-word-requires : tie.Need-write-word-requires
-write-word-requires c κs = search needs
-
-write-word-requires-2 : tie.Need-write-word-requires-2
-write-word-requires-2 c κs = search needs
-
-write-word-requires-3 : tie.Need-write-word-requires-3
-write-word-requires-3 c κs = search needs
-
-same-length : tie.Need-same-length
-same-length c = search needs
 
 returns : tie.Need-returns
 returns c =
@@ -48,11 +27,11 @@ pub store-limits-spec : {M : Type 1} → statement M
 store-limits-spec =
     tie.close
     (tie.spec
-    first-word-requires
-    second-word-requires
-    third-word-requires
-    write-word-requires
-    write-word-requires-2
-    write-word-requires-3
-    same-length
+    (λ c κs. search needs)
+    (λ c κs. search needs)
+    (λ c κs. search needs)
+    (λ c κs. search needs)
+    (λ c κs. search needs)
+    (λ c κs. search needs)
+    (λ c. search needs)
     returns)

@@ -1,4 +1,4 @@
--- `tape::records::decode_record` meets its contract, from `block-of-words`. Assumes nothing.
+-- `tape::records::decode_record` meets its contract, from `block-of-words`.
 use mathlib.Core.Path.{_∙_}
 use Prim.Native.Nat.{_/_, _%_, _^_}
 use mir.Syntax.{w64}
@@ -7,30 +7,6 @@ use Rattle.tape.proofs.Words.{block-of-words}
 use borrow.Author.Needs.{needs}
 use Rattle.tape.proofs.records.decode_record.Statement.{statement}
 use Rattle.tape.proofs.records.decode_record.Tie as tie
-
-read-word-requires : tie.Need-read-word-requires
-read-word-requires c κs = search needs
-
-read-word-requires-2 : tie.Need-read-word-requires-2
-read-word-requires-2 c κs = search needs
-
-to-signed-requires : tie.Need-to-signed-requires
-to-signed-requires c κs = search needs
-
-to-signed-requires-2 : tie.Need-to-signed-requires-2
-to-signed-requires-2 c κs = search needs
-
-to-signed-requires-3 : tie.Need-to-signed-requires-3
-to-signed-requires-3 c κs = search needs
-
-feed-of-requires : tie.Need-feed-of-requires
-feed-of-requires c κs = search needs
-
-rem-t13 : tie.Need-rem-t13
-rem-t13 c = search needs
-
-rem-t15 : tie.Need-rem-t15
-rem-t15 c = search needs
 
 returns : tie.Need-returns
 returns c =
@@ -53,12 +29,12 @@ pub decode-record-spec : {M : Type 1} → statement M
 decode-record-spec =
     tie.close
     (tie.spec
-    read-word-requires
-    read-word-requires-2
-    to-signed-requires
-    to-signed-requires-2
-    to-signed-requires-3
-    feed-of-requires
-    rem-t13
-    rem-t15
+    (λ c κs. search needs)
+    (λ c κs. search needs)
+    (λ c κs. search needs)
+    (λ c κs. search needs)
+    (λ c κs. search needs)
+    (λ c κs. search needs)
+    (λ c. search needs)
+    (λ c. search needs)
     returns)

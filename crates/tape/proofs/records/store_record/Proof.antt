@@ -1,4 +1,4 @@
--- `tape::records::store_record` meets its contract: the two words are the block's number, from `words-of-block`. Assumes nothing.
+-- `tape::records::store_record` meets its contract: the two words are the block's number, from `words-of-block`.
 use mathlib.Core.Path.{ap, _∙_}
 use native.Mathlib.Omega.{arith}
 use mir.Syntax.{w64}
@@ -11,30 +11,6 @@ use Rattle.tape.proofs.Words.{words-of-block}
 use borrow.Author.Needs.{needs}
 use Rattle.tape.proofs.records.store_record.Statement.{statement}
 use Rattle.tape.proofs.records.store_record.Tie as tie
-
-to-bits-requires : tie.Need-to-bits-requires
-to-bits-requires c κs = search needs
-
-to-bits-requires-2 : tie.Need-to-bits-requires-2
-to-bits-requires-2 c κs = search needs
-
-to-bits-requires-3 : tie.Need-to-bits-requires-3
-to-bits-requires-3 c κs = search needs
-
-first-word-requires : tie.Need-first-word-requires
-first-word-requires c κs = search needs
-
-second-word-requires : tie.Need-second-word-requires
-second-word-requires c κs = search needs
-
-write-word-requires : tie.Need-write-word-requires
-write-word-requires c κs = search needs
-
-write-word-requires-2 : tie.Need-write-word-requires-2
-write-word-requires-2 c κs = search needs
-
-same-length : tie.Need-same-length
-same-length c = search needs
 
 returns : tie.Need-returns
 returns c =
@@ -59,12 +35,12 @@ pub store-record-spec : {M : Type 1} → statement M
 store-record-spec =
     tie.close
     (tie.spec
-    to-bits-requires
-    to-bits-requires-2
-    to-bits-requires-3
-    first-word-requires
-    second-word-requires
-    write-word-requires
-    write-word-requires-2
-    same-length
+    (λ c κs. search needs)
+    (λ c κs. search needs)
+    (λ c κs. search needs)
+    (λ c κs. search needs)
+    (λ c κs. search needs)
+    (λ c κs. search needs)
+    (λ c κs. search needs)
+    (λ c. search needs)
     returns)

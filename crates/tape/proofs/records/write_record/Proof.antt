@@ -1,12 +1,13 @@
--- `tape::records::write_record` meets its contract, from what `check_block` and `store_record` ensure. Assumes nothing.
+-- `tape::records::write_record` meets its contract, from what `check_block` and `store_record` ensure.
 use mathlib.Core.Path.{_≡_, sym, ap, _∙_}
 use native.Mathlib.Omega.{arith}
 use lib.Dec.{lit<}
-use Rattle.machine.specs.Checks.{checkedNumber, blockRefusal}
-use Rattle.machine.specs.declared.Refusal.the-variants as why
-use Rattle.machine.specs.declared.Checked.the-variants.{Refused}
-use Rattle.tape.specs.Display.{recordWritten}
-use Rattle.machine.proofs.AnswerLaws.{refusal-above}
+use Rattle.machine.specs.Checks.{blockRefusal}
+use Rattle.display.specs.declared.Refusal.the-variants as why
+use Rattle.display.specs.declared.Checked.the-variants.{Refused}
+use Rattle.display.specs.Display.{checkedMeans}
+use Rattle.tape.specs.Answers.{recordWritten}
+use Rattle.display.proofs.Answers.{refusal-above}
 use Rattle.tape.proofs.Answers.{enough, too-few, wrote-none, wrote-all}
 use Rattle.tape.proofs.Checks.{record-fields, record-room}
 use Rattle.tape.proofs.Fits.{block-fits}
@@ -14,18 +15,9 @@ use borrow.Author.Needs.{needs}
 use Rattle.tape.proofs.records.write_record.Statement.{statement}
 use Rattle.tape.proofs.records.write_record.Tie as tie
 
-check-block-requires : tie.Need-check-block-requires
-check-block-requires c κs = search needs
-
-enum-known-why : tie.Need-enum-known-why
-enum-known-why c = search needs
-
-enum-told : tie.Need-enum-told
-enum-told c = search needs
-
 -- the fields pass
 passed : (c : tie.After-enum-told) → blockRefusal (c .before .before .before .before .args .b) ≡ 0
-passed c = sym (c .before .before .check-block .ensures) ∙ ap checkedNumber (c .enum-told .given .1)
+passed c = sym (c .before .before .check-block .ensures) ∙ ap checkedMeans (c .enum-told .given .1)
 
 returns : tie.Need-returns
 unfolding recordWritten
@@ -38,11 +30,8 @@ returns-2 : tie.Need-returns-2
 unfolding recordWritten
 returns-2 c =
     let r = c .before .why .given .0 .0 in
-    let e = sym (c .before .before .before .check-block .ensures) ∙ ap checkedNumber (c .before .why .given .1) in
+    let e = sym (c .before .before .before .check-block .ensures) ∙ ap checkedMeans (c .before .why .given .1) in
     wrote-none _ _ (Refused r) (refusal-above r) (sym (record-fields _ _ (rw e (refusal-above r)) ∙ e))
-
-same-length : tie.Need-same-length
-same-length c = search needs
 
 returns-3 : tie.Need-returns-3
 unfolding recordWritten
@@ -55,11 +44,11 @@ pub write-record-spec : {M : Type 1} → statement M
 write-record-spec =
     tie.close
     (tie.spec
-    check-block-requires
-    enum-known-why
-    enum-told
+    (λ c κs. search needs)
+    (λ c. search needs)
+    (λ c. search needs)
     returns
     store-record-requires
     returns-2
-    same-length
+    (λ c. search needs)
     returns-3)

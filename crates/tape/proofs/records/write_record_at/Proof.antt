@@ -1,4 +1,4 @@
--- `tape::records::write_record_at` meets its contract, from what `write_record` ensures of the part that it is lent. Assumes nothing.
+-- `tape::records::write_record_at` meets its contract, from what `write_record` ensures of the part that it is lent.
 use borrow.Author.Needs.{needs}
 use Rattle.tape.proofs.Written.{written-part}
 use Rattle.tape.proofs.records.write_record_at.Statement.{statement}

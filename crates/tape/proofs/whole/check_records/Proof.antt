@@ -1,9 +1,10 @@
--- `tape::whole::check_records` meets its contract: before record k those before it have passed. From `passed-next`, `fault-at` and `fault-none`. Assumes nothing.
+-- `tape::whole::check_records` meets its contract: before record k those before it have passed. From `passed-next`, `fault-at` and `fault-none`.
 use mathlib.Core.Path.{sym, ap, _∙_}
 use Prim.Native.Nat.{ℕ, _+_, _-_, _≤_}
 use native.Mathlib.Omega.{arith}
 use Rattle.machine.specs.Checks.{blockRefusal}
-use Rattle.tape.specs.Display.{_at_, recordAnswer, checkRecords}
+use Rattle.display.specs.Display.{_at_, given}
+use Rattle.tape.specs.Answers.{recordMeans, checkRecords}
 use Rattle.tape.proofs.Answers.{faulty, faultless}
 use Rattle.tape.proofs.Faults.{part-given, part-refused, PassedBefore, passed-none, passed-next, fault-at, fault-none}
 use borrow.Author.Needs.{needs}
@@ -26,7 +27,7 @@ returns c =
     let read = c .before .before .before in
     let l = read .before .before .before in
     let s = l .before .before .args .s .now in
-    let r = part-refused s (read .before .before .loop-test .taken) (sym (read .read-record .ensures) ∙ ap recordAnswer (why .1)) in
+    let r = part-refused s (read .before .before .loop-test .taken) (sym (read .read-record .ensures) ∙ ap recordMeans (why .1)) in
     faulty s (why .0 .0) _
     (fault-at s (l .loop .inv .1) (read .before .before .loop-test .taken) (rw (r .1) (r .0)) ∙ ap (λ (n : ℕ). n at (l .loop .k + 1)) (r .1))
 
@@ -35,7 +36,7 @@ loop-again c =
     let read = c .before .before in
     let l = read .before .before .before in
     let s = l .before .before .args .s .now in
-    let r = part-given s (l .loop .k) (sym (read .read-record .ensures) ∙ ap recordAnswer (c .enum-told .given .1)) in
+    let r = part-given s (l .loop .k) (sym (read .read-record .ensures) ∙ ap recordMeans (c .enum-told .given .1)) in
     (omega arith, passed-next s (l .loop .inv .1) (read .before .before .loop-test .taken) (ap blockRefusal (r .0) ∙ r .1))
 
 returns-2 : tie.Need-returns-2 Inv-loop μ-loop

@@ -1,7 +1,8 @@
--- `tape::whole::check_tape` meets its contract: the head's fault comes before the records'. From what `read_head` and `check_records` ensure. Assumes nothing.
+-- `tape::whole::check_tape` meets its contract: the head's fault comes before the records'. From what `read_head` and `check_records` ensure.
 use mathlib.Core.Path.{_≡_, sym, ap, _∙_}
 use Prim.Native.Nat.{ℕ}
-use Rattle.tape.specs.Display.{Fault, _at_, byFault, limitsAnswer, headRefusal, checkRecords, checkTape}
+use Rattle.display.specs.Display.{Fault, _at_, given}
+use Rattle.tape.specs.Answers.{byFault, limitsMeans, headRefusal, checkRecords, checkTape}
 use Rattle.tape.proofs.Answers.{faulty}
 use Rattle.tape.proofs.Checks.{head-passed, head-given, head-refused}
 use Rattle.tape.proofs.Faults.{fault-records, fault-head}
@@ -9,21 +10,12 @@ use borrow.Author.Needs.{needs}
 use Rattle.tape.proofs.whole.check_tape.Statement.{statement}
 use Rattle.tape.proofs.whole.check_tape.Tie as tie
 
-read-head-requires : tie.Need-read-head-requires
-read-head-requires c κs = search needs
-
-enum-told : tie.Need-enum-told
-enum-told c = search needs
-
 -- the head passes
 passed : (c : tie.After-enum-told) → headRefusal (c .before .before .before .before .args .s .now) ≡ 0
-passed c = head-given _ (sym (c .before .before .read-head .ensures) ∙ ap limitsAnswer (c .enum-told .given .1)) .0
+passed c = head-given _ (sym (c .before .before .read-head .ensures) ∙ ap limitsMeans (c .enum-told .given .1)) .0
 
 check-records-requires : tie.Need-check-records-requires
 check-records-requires c κs = head-passed _ (passed c) .least
-
-enum-known-why : tie.Need-enum-known-why
-enum-known-why c = search needs
 
 returns : tie.Need-returns
 unfolding checkRecords checkTape
@@ -35,10 +27,10 @@ returns-2 : tie.Need-returns-2
 unfolding checkTape
 returns-2 c =
     let s = c .before .before .before .before .before .args .s .now in
-    let h = head-refused s (sym (c .before .before .before .read-head .ensures) ∙ ap limitsAnswer (c .before .why .given .1)) in
+    let h = head-refused s (sym (c .before .before .before .read-head .ensures) ∙ ap limitsMeans (c .before .why .given .1)) in
     faulty s (c .before .why .given .0 .0) 0 (fault-head s (rw (h .1) (h .0)) ∙ ap (λ (n : ℕ). n at 0) (h .1))
 
 pub check-tape-spec : {M : Type 1} → statement M
 check-tape-spec =
     tie.close
-    (tie.spec read-head-requires enum-told check-records-requires enum-known-why returns returns-2)
+    (tie.spec (λ c κs. search needs) (λ c. search needs) check-records-requires (λ c. search needs) returns returns-2)

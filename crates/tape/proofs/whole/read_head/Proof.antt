@@ -1,9 +1,10 @@
--- `tape::whole::read_head` meets its contract: the tests are the definition's, and the rest is what `read_limits` ensures. Assumes nothing.
+-- `tape::whole::read_head` meets its contract: the tests are the definition's, and the rest is what `read_limits` ensures.
 use mathlib.Core.Path.{sym, _∙_}
-use Rattle.machine.specs.declared.Refusal.the-variants as why
+use Rattle.display.specs.declared.Refusal.the-variants as why
 use Rattle.tape.specs.Tape.{limitsAt}
-use Rattle.tape.specs.Display.{byNumber, given, refused, readLimits, readHead}
-use Rattle.tape.proofs.Answers.{refuses-by}
+use Rattle.display.specs.Display.{byNumber, given, refused}
+use Rattle.tape.specs.Answers.{readLimits, readHead}
+use Rattle.display.proofs.Answers.{refuses-by}
 use Rattle.tape.proofs.Checks.{head-many, head-short, head-ragged, head-limits, limits-long}
 use borrow.Author.Needs.{needs}
 use Rattle.tape.proofs.whole.read_head.Statement.{statement}
@@ -17,15 +18,9 @@ returns-2 : tie.Need-returns-2
 unfolding readHead
 returns-2 c = refuses-by _ why.Ragged (head-short _ (c .before .if1 .left) (c .if2 .taken))
 
-sub-if3 : tie.Need-sub-if3
-sub-if3 c = search needs
-
 returns-3 : tie.Need-returns-3
 unfolding readHead
 returns-3 c = refuses-by _ why.Ragged (head-ragged _ (c .before .before .if1 .left) (c .before .if2 .left) (c .if3 .taken))
-
-read-limits-requires : tie.Need-read-limits-requires
-read-limits-requires c κs = search needs
 
 returns-4 : tie.Need-returns-4
 unfolding readHead readLimits
@@ -37,4 +32,4 @@ returns-4 c =
 
 pub read-head-spec : {M : Type 1} → statement M
 read-head-spec =
-    tie.close (tie.spec returns returns-2 sub-if3 returns-3 read-limits-requires returns-4)
+    tie.close (tie.spec returns returns-2 (λ c. search needs) returns-3 (λ c κs. search needs) returns-4)

@@ -1,4 +1,4 @@
--- `tapeplan::junctions::cap_of` meets its contract, from the numbers of the two blocks. Assumes nothing.
+-- `tapeplan::junctions::cap_of` meets its contract, from the numbers of the two blocks.
 use mathlib.Core.Path.{_≡_, sym, ap, _∙_}
 use Prim.Native.Nat.{_*_, _^_, _<_, min}
 use borrow.Author.Needs.{needs}
@@ -31,9 +31,6 @@ from-numbers l a b na nb e f = λ i. underCorner (cornerFrom (l .jump) (e i .len
 returns : tie.Need-returns
 returns c = simp (eq-eqb _ _ (c .if1 .taken))
 
-smaller-requires : tie.Need-smaller-requires
-smaller-requires c κs = search needs
-
 -- what is known of the block before
 known-before : (c : tie.Else1) → (blockRefusal (c .before .args .before) ≡ 0) × (c .before .args .known ≡ numbersOf (c .before .args .l) (c .before .args .before))
 known-before c = c .before .pre .3 (omega (arith, c .if1 .left))
@@ -56,4 +53,4 @@ returns-2 c =
     ∙ sym (simp (ne-eqb _ _ (e .if1 .left)))
 
 pub cap-of-spec : {M : Type 1} → statement M
-cap-of-spec = tie.close (tie.spec returns smaller-requires under-corner-requires returns-2)
+cap-of-spec = tie.close (tie.spec returns (λ c κs. search needs) under-corner-requires returns-2)

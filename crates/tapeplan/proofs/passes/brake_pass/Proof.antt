@@ -1,4 +1,4 @@
--- `tapeplan::passes::brake_pass` meets its contract. The invariant: from junction k on the list holds the backward pass. The measure is k. Assumes nothing.
+-- `tapeplan::passes::brake_pass` meets its contract. The invariant: from junction k on the list holds the backward pass. The measure is k.
 use borrow.Author.Needs.{needs}
 use mathlib.Core.Path.{_≡_, sym}
 use native.Mathlib.Omega.{arith}
@@ -28,52 +28,10 @@ Inv-loop caps reaches list₀ n k₀ list k = (k ≤ length caps) × (length lis
 abbrev μ-loop : tie.MeasureT-loop
 μ-loop caps reaches list₀ n k₀ list k = k
 
-mul-list : tie.Need-mul-list Inv-loop μ-loop
-mul-list c = search needs
-
-slice-write-list : tie.Need-slice-write-list Inv-loop μ-loop
-slice-write-list c = search needs
-
 loop-holds : tie.Need-loop-holds Inv-loop μ-loop
 loop-holds c =
     let n : length (lineOf (c .before .before .before .args .caps .now) (c .before .before .before .args .reaches .now)) ≡ length (c .before .before .before .args .caps .now) = line-length _ _ (c .before .before .before .pre .0) in
     (search needs, search needs, store-end (lineOf (c .before .before .before .args .caps .now) (c .before .before .before .args .reaches .now)) (c .before .before .before .args .list .now) (omega arith) _ (sym n))
-
-sub-k : tie.Need-sub-k Inv-loop μ-loop
-sub-k c = search needs
-
-mul-brake-from : tie.Need-mul-brake-from Inv-loop μ-loop
-mul-brake-from c = search needs
-
-shared-slice-read-brake-from : tie.Need-shared-slice-read-brake-from Inv-loop μ-loop
-shared-slice-read-brake-from c = search needs
-
-mul-brake-from-2 : tie.Need-mul-brake-from-2 Inv-loop μ-loop
-mul-brake-from-2 c = search needs
-
-shared-slice-read-brake-from-2 : tie.Need-shared-slice-read-brake-from-2 Inv-loop μ-loop
-shared-slice-read-brake-from-2 c = search needs
-
-add-brake-from : tie.Need-add-brake-from Inv-loop μ-loop
-add-brake-from c = search needs
-
-mul-brake-from-3 : tie.Need-mul-brake-from-3 Inv-loop μ-loop
-mul-brake-from-3 c = search needs
-
-slice-read-brake-from : tie.Need-slice-read-brake-from Inv-loop μ-loop
-slice-read-brake-from c = search needs
-
-brake-from-requires : tie.Need-brake-from-requires Inv-loop μ-loop
-brake-from-requires c κs = search needs
-
-mul-list-2 : tie.Need-mul-list-2 Inv-loop μ-loop
-mul-list-2 c = search needs
-
-slice-write-list-2 : tie.Need-slice-write-list-2 Inv-loop μ-loop
-slice-write-list-2 c = search needs
-
-loop-less : tie.Need-loop-less Inv-loop μ-loop
-loop-less c = search needs
 
 loop-again : tie.Need-loop-again Inv-loop μ-loop
 loop-again c = (
@@ -87,9 +45,6 @@ loop-again c = (
       (search needs) (search needs) (search needs) (c .brake-from .ensures) (c .before .before .before .before .before .loop .inv .2),
 )
 
-same-length : tie.Need-same-length Inv-loop μ-loop
-same-length c = search needs
-
 returns : tie.Need-returns Inv-loop μ-loop
 returns c = record {
   sized = omega (arith, line-length (c .before .before .before .before .before .args .caps .now) (c .before .before .before .before .before .args .reaches .now) (c .before .before .before .before .before .pre .0));
@@ -102,21 +57,21 @@ brake-pass-spec =
     (tie.spec
     Inv-loop
     μ-loop
-    mul-list
-    slice-write-list
+    (λ c. search needs)
+    (λ c. search needs)
     loop-holds
-    sub-k
-    mul-brake-from
-    shared-slice-read-brake-from
-    mul-brake-from-2
-    shared-slice-read-brake-from-2
-    add-brake-from
-    mul-brake-from-3
-    slice-read-brake-from
-    brake-from-requires
-    mul-list-2
-    slice-write-list-2
-    loop-less
+    (λ c. search needs)
+    (λ c. search needs)
+    (λ c. search needs)
+    (λ c. search needs)
+    (λ c. search needs)
+    (λ c. search needs)
+    (λ c. search needs)
+    (λ c. search needs)
+    (λ c κs. search needs)
+    (λ c. search needs)
+    (λ c. search needs)
+    (λ c. search needs)
     loop-again
-    same-length
+    (λ c. search needs)
     returns)

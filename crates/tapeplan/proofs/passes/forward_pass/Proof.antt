@@ -1,4 +1,4 @@
--- `tapeplan::passes::forward_pass` meets its contract. The invariant: up to junction k the list holds the plan, behind it the backward pass. The measure is what is left. Assumes nothing.
+-- `tapeplan::passes::forward_pass` meets its contract. The invariant: up to junction k the list holds the plan, behind it the backward pass. The measure is what is left.
 use borrow.Author.Needs.{needs}
 use mathlib.Core.Path.{_≡_}
 use native.Mathlib.Omega.{arith}
@@ -28,54 +28,12 @@ Inv-loop caps reaches list₀ k₀ list k = (k ≤ length reaches) × (length li
 abbrev μ-loop : tie.MeasureT-loop
 μ-loop caps reaches list₀ k₀ list k = length reaches - k
 
-slice-write-list : tie.Need-slice-write-list Inv-loop μ-loop
-slice-write-list c = search needs
-
 loop-holds : tie.Need-loop-holds Inv-loop μ-loop
 loop-holds c = (
   search needs,
   rw length-set (omega arith),
   in-place-first (lineOf (c .before .before .before .args .caps .now) (c .before .before .before .args .reaches .now)) (c .before .before .before .args .list .now) (c .before .before .before .pre .2 .sized) 0 zero-le (c .before .before .before .pre .2 .braked),
 )
-
-mul-exit-from : tie.Need-mul-exit-from Inv-loop μ-loop
-mul-exit-from c = search needs
-
-slice-read-exit-from : tie.Need-slice-read-exit-from Inv-loop μ-loop
-slice-read-exit-from c = search needs
-
-mul-exit-from-2 : tie.Need-mul-exit-from-2 Inv-loop μ-loop
-mul-exit-from-2 c = search needs
-
-shared-slice-read-exit-from : tie.Need-shared-slice-read-exit-from Inv-loop μ-loop
-shared-slice-read-exit-from c = search needs
-
-add-exit-from : tie.Need-add-exit-from Inv-loop μ-loop
-add-exit-from c = search needs
-
-mul-exit-from-3 : tie.Need-mul-exit-from-3 Inv-loop μ-loop
-mul-exit-from-3 c = search needs
-
-slice-read-exit-from-2 : tie.Need-slice-read-exit-from-2 Inv-loop μ-loop
-slice-read-exit-from-2 c = search needs
-
-exit-from-requires : tie.Need-exit-from-requires Inv-loop μ-loop
-exit-from-requires c κs = search needs
-
-add-list : tie.Need-add-list Inv-loop μ-loop
-add-list c = search needs
-
-mul-list : tie.Need-mul-list Inv-loop μ-loop
-mul-list c = search needs
-
-slice-write-list-2 : tie.Need-slice-write-list-2 Inv-loop μ-loop
-slice-write-list-2 c = search needs
-
-add-k : tie.Need-add-k Inv-loop μ-loop
-add-k c = search needs
-
-loop-less : tie.Need-loop-less Inv-loop μ-loop
-loop-less c = search needs
 
 loop-again : tie.Need-loop-again Inv-loop μ-loop
 loop-again c = (
@@ -87,9 +45,6 @@ loop-again c = (
       (c .before .before .before .before .before .loop .k) _
       (search needs) (search needs) (search needs) (c .exit-from .ensures) (c .before .before .before .before .before .loop .inv .2),
 )
-
-same-length : tie.Need-same-length Inv-loop μ-loop
-same-length c = search needs
 
 returns : tie.Need-returns Inv-loop μ-loop
 returns c =
@@ -103,21 +58,21 @@ forward-pass-spec =
     (tie.spec
     Inv-loop
     μ-loop
-    slice-write-list
+    (λ c. search needs)
     loop-holds
-    mul-exit-from
-    slice-read-exit-from
-    mul-exit-from-2
-    shared-slice-read-exit-from
-    add-exit-from
-    mul-exit-from-3
-    slice-read-exit-from-2
-    exit-from-requires
-    add-list
-    mul-list
-    slice-write-list-2
-    add-k
-    loop-less
+    (λ c. search needs)
+    (λ c. search needs)
+    (λ c. search needs)
+    (λ c. search needs)
+    (λ c. search needs)
+    (λ c. search needs)
+    (λ c. search needs)
+    (λ c κs. search needs)
+    (λ c. search needs)
+    (λ c. search needs)
+    (λ c. search needs)
+    (λ c. search needs)
+    (λ c. search needs)
     loop-again
-    same-length
+    (λ c. search needs)
     returns)

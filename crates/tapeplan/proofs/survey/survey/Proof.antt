@@ -1,4 +1,4 @@
--- `tapeplan::survey::survey` meets its contract: before record k those before it are surveyed. From `survey-next`, `survey-all` and the tape's faults. Assumes nothing.
+-- `tapeplan::survey::survey` meets its contract: before record k those before it are surveyed. From `survey-next`, `survey-all` and the tape's faults.
 use mathlib.Core.Path.{_≡_, refl, sym, ap, _∙_}
 use mathlib.Core.List.{List}
 use Prim.Native.Nat.{ℕ, _+_, _-_, _≤_, _<_}
@@ -8,7 +8,8 @@ use lib.ListN.{length, length-set}
 use Rattle.machine.specs.Checks.{blockRefusal}
 use Rattle.machine.specs.declared.Block.{Block}
 use Rattle.tape.specs.Tape.{recordAt}
-use Rattle.tape.specs.Display.{recordAnswer, Fault, _at_, checkRecords}
+use Rattle.tape.specs.Answers.{recordMeans, checkRecords}
+use Rattle.display.specs.Display.{Fault, _at_}
 use Rattle.tape.proofs.Answers.{faulty, faultless}
 use Rattle.tape.proofs.Faults.{part-given, part-refused, passed-none, fault-at, fault-none}
 use Rattle.tapeplan.proofs.Surveys.{Surveying, survey-next, survey-all}
@@ -45,7 +46,7 @@ module _ (c : tie.After-known-told2 Inv-loop μ-loop) where
   block = c .before .b .given .0 .0
 
   passes : (recordAt (bytes read) (k read) ≡ block) × (blockRefusal block ≡ 0)
-  passes = part-given (bytes read) (k read) (sym (read .read-record .ensures) ∙ ap recordAnswer (c .before .b .given .1))
+  passes = part-given (bytes read) (k read) (sym (read .read-record .ensures) ∙ ap recordMeans (c .before .b .given .1))
 
   within : (k read < length (turn read .loop .caps)) × (k read < length (turn read .loop .reaches))
   within =
@@ -63,7 +64,7 @@ returns c =
     let why = c .before .why .given in
     let read = c .before .before .before in
     let t = read .before .before .loop-test .taken in
-    let r = part-refused (bytes read) t (sym (read .read-record .ensures) ∙ ap recordAnswer (why .1)) in
+    let r = part-refused (bytes read) t (sym (read .read-record .ensures) ∙ ap recordMeans (why .1)) in
     let fault = fault-at (bytes read) (turn read .loop .inv .3 .passed) t (rw (r .1) (r .0)) ∙ ap (λ (n : ℕ). n at (k read + 1)) (r .1) in
     record { answer = faulty (bytes read) (why .0 .0) _ fault; line = λ z. absurd (omega (arith, r .0, sym z ∙ ap (λ (f : Fault). f .number) fault)) }
 

@@ -1,4 +1,4 @@
--- `tapeplan::whole::plan_records` meets its contract: the survey's lists are the tape's line, which the passes plan. Assumes nothing.
+-- `tapeplan::whole::plan_records` meets its contract: the survey's lists are the tape's line, which the passes plan.
 use mathlib.Core.Path.{_≡_, sym, ap, _∙_}
 use Prim.Native.Nat.{ℕ, _+_, _≤_}
 use borrow.Author.Needs.{needs}
@@ -7,12 +7,13 @@ use lib.ListN.{length, take}
 use lib.Seq.{length-take-le}
 use Rattle.profile.specs.Passes.{planOf}
 use Rattle.machine.specs.Checks.{limitsRefusal}
-use Rattle.machine.specs.Line.{stepsOf}
+use Rattle.machine.specs.Line.{spansOf}
 use Rattle.machine.specs.declared.Limits.{Limits}
 use Rattle.machine.proofs.Bounds.{limits-below}
 use Rattle.tape.specs.Tape.{limitsAt, recordsIn, tapeBlocks}
-use Rattle.tape.specs.Display.{Fault, tapeFault, faultFrom, tapeAnswer, checkRecords}
-use Rattle.tape.proofs.Answers.{given-is, refused-is}
+use Rattle.display.specs.Display.{Fault}
+use Rattle.tape.specs.Answers.{tapeFault, faultFrom, tapeMeans, checkRecords}
+use Rattle.display.proofs.Answers.{given-is, refused-is}
 use Rattle.tape.proofs.Checks.{head-passed, head-records, limits-faultless}
 use Rattle.tape.proofs.Faults.{fault-records}
 use Rattle.tapeplan.specs.Lent.{lineOf}
@@ -20,24 +21,12 @@ use Rattle.tapeplan.proofs.Answered.{tape-refused, list-refused, tape-p
 use Rattle.tapeplan.proofs.whole.plan_records.Statement.{statement}
 use Rattle.tapeplan.proofs.whole.plan_records.Tie as tie
 
-slice-aggregate-survey : tie.Need-slice-aggregate-survey
-slice-aggregate-survey c = search needs
-
-slice-aggregate-survey-2 : tie.Need-slice-aggregate-survey-2
-slice-aggregate-survey-2 c = search needs
-
 survey-requires : tie.Need-survey-requires
 survey-requires c κs =
     let a = c .before .before .before .before in
     let s = a .args .s .now in
     let head = head-passed s (a .pre .0) in
     (limits-below (a .args .l) (ap limitsRefusal (a .pre .1) ∙ limits-faultless s (head .limits) .1), head .least, head-records s head, head-records s head)
-
-enum-known-why : tie.Need-enum-known-why
-enum-known-why c = search needs
-
-enum-known-n : tie.Need-enum-known-n
-enum-known-n c = search needs
 
 -- what is known where the records pass: no fault, and n records
 module _ (c : tie.After-known-told2) where
@@ -54,7 +43,7 @@ module _ (c : tie.After-known-told2) where
   unfolding checkRecords
   passed =
       given-is (recordsIn (start .args .s .now)) (faultFrom 1 (tapeBlocks (start .args .s .now))) (faultFrom 1 (tapeBlocks (start .args .s .now)) .number)
-      (sym (ap tapeAnswer (c .before .n .given .1)) ∙ surveyed .survey .ensures .answer)
+      (sym (ap tapeMeans (c .before .n .given .1)) ∙ surveyed .survey .ensures .answer)
 
   faultless : tapeFault (start .args .s .now) .number ≡ 0
   faultless = ap (λ (f : Fault). f .number) (fault-records (start .args .s .now) (start .pre .0)) ∙ passed .0
@@ -62,11 +51,11 @@ module _ (c : tie.After-known-told2) where
   few : n ≤ 2048
   few = omega (arith, passed .1, head-records (start .args .s .now) (head-passed (start .args .s .now) (start .pre .0)))
 
-  line-is : lineOf (take n (surveyed .survey .last .1 .1 .0)) (take n (surveyed .survey .last .1 .1 .1 .0)) ≡ stepsOf (limitsAt (start .args .s .now)) (tapeBlocks (start .args .s .now))
+  line-is : lineOf (take n (surveyed .survey .last .1 .1 .0)) (take n (surveyed .survey .last .1 .1 .1 .0)) ≡ spansOf (limitsAt (start .args .s .now)) (tapeBlocks (start .args .s .now))
   line-is =
       ap (λ (m : ℕ). lineOf (take m (surveyed .survey .last .1 .1 .0)) (take m (surveyed .survey .last .1 .1 .1 .0))) (passed .1)
       ∙ surveyed .survey .ensures .line (passed .0)
-      ∙ ap (λ (l : Limits). stepsOf l (tapeBlocks (start .args .s .now))) (start .pre .1)
+      ∙ ap (λ (l : Limits). spansOf l (tapeBlocks (start .args .s .now))) (start .pre .1)
 
   caps-long : length (take n (surveyed .survey .last .1 .1 .0)) ≡ n
   caps-long = length-take-le n (surveyed .survey .last .1 .1 .0) (omega (arith, few, surveyed .survey .kept .1 .1 .0))
@@ -105,11 +94,8 @@ returns-2 c =
     let v = c .before .before .before .before .before in
     let a = v .before .before .before .before .before in
     let s = a .args .s .now in
-    let r = refused-is (recordsIn s) (faultFrom 1 (tapeBlocks s)) (faultFrom 1 (tapeBlocks s) .number) (sym (ap tapeAnswer (w .given .1)) ∙ v .survey .ensures .answer) in
+    let r = refused-is (recordsIn s) (faultFrom 1 (tapeBlocks s)) (faultFrom 1 (tapeBlocks s) .number) (sym (ap tapeMeans (w .given .1)) ∙ v .survey .ensures .answer) in
     tape-refused s (a .args .list .now) (w .given .0 .0) (w .given .0 .1 .0) (fault-records s (a .pre .0) ∙ sym (r .1))
-
-same-length : tie.Need-same-length
-same-length c = search needs
 
 returns-3 : tie.Need-returns-3
 returns-3 c =
@@ -121,4 +107,4 @@ returns-3 c =
 pub plan-records-spec : {M : Type 1} → statement M
 plan-records-spec =
     tie.close
-    (tie.spec slice-aggregate-survey slice-aggregate-survey-2 survey-requires enum-known-why enum-known-n add-if1 returns array-share-prefix-caps slice-aggregate-plan-into array-share-prefix-reaches slice-aggregate-plan-into-2 plan-into-requires returns-2 same-length returns-3)
+    (tie.spec (λ c. search needs) (λ c. search needs) survey-requires (λ c. search needs) (λ c. search needs) add-if1 returns array-share-prefix-caps slice-aggregate-plan-into array-share-prefix-reaches slice-aggregate-plan-into-2 plan-into-requires returns-2 (λ c. search needs) returns-3)

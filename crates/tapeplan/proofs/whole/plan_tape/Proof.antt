@@ -1,29 +1,21 @@
--- `tapeplan::whole::plan_tape` meets its contract: the head decides, or the records do. Assumes nothing.
+-- `tapeplan::whole::plan_tape` meets its contract: the head decides, or the records do.
 use mathlib.Core.Path.{sym, ap, _∙_}
 use Prim.Native.Nat.{ℕ}
 use borrow.Author.Needs.{needs}
-use Rattle.tape.specs.Display.{_at_, limitsAnswer}
+use Rattle.display.specs.Display.{_at_}
+use Rattle.tape.specs.Answers.{limitsMeans}
 use Rattle.tape.proofs.Checks.{head-given, head-refused}
 use Rattle.tape.proofs.Faults.{fault-head}
 use Rattle.tapeplan.proofs.Answered.{tape-refused}
 use Rattle.tapeplan.proofs.whole.plan_tape.Statement.{statement}
 use Rattle.tapeplan.proofs.whole.plan_tape.Tie as tie
 
-read-head-requires : tie.Need-read-head-requires
-read-head-requires c κs = search needs
-
-enum-known-why : tie.Need-enum-known-why
-enum-known-why c = search needs
-
-enum-known-l : tie.Need-enum-known-l
-enum-known-l c = search needs
-
 plan-records-requires : tie.Need-plan-records-requires
 plan-records-requires c κs =
     let m = c .before .before in
     let r = m .before .before in
     let s = r .before .before .before .args .s .now in
-    let head = head-given s (sym (r .read-head .ensures) ∙ ap limitsAnswer (m .l .given .1)) in
+    let head = head-given s (sym (r .read-head .ensures) ∙ ap limitsMeans (m .l .given .1)) in
     (head .0, sym (head .1 .0))
 
 returns : tie.Need-returns
@@ -31,14 +23,11 @@ returns c =
     let why = c .before .why .given .0 .0 in
     let r = c .before .before .before in
     let a = r .before .before .before .args in
-    let head = head-refused (a .s .now) (sym (r .read-head .ensures) ∙ ap limitsAnswer (c .before .why .given .1)) in
+    let head = head-refused (a .s .now) (sym (r .read-head .ensures) ∙ ap limitsMeans (c .before .why .given .1)) in
     tape-refused (a .s .now) (a .list .now) why 0 (fault-head (a .s .now) (rw (head .1) (head .0)) ∙ ap (λ (n : ℕ). n at 0) (head .1))
-
-same-length : tie.Need-same-length
-same-length c = search needs
 
 returns-2 : tie.Need-returns-2
 returns-2 c = c .before .before .plan-records .ensures
 
 pub plan-tape-spec : {M : Type 1} → statement M
-plan-tape-spec = tie.close (tie.spec read-head-requires enum-known-why enum-known-l plan-records-requires returns same-length returns-2)
+plan-tape-spec = tie.close (tie.spec (λ c κs. search needs) (λ c. search needs) (λ c. search needs) plan-records-requires returns (λ c. search needs) returns-2)

@@ -1,2 +1,0 @@
--- The laws of a block's line.
-pub mod Lines

@@ -1,2 +1,0 @@
--- The text of a block given out.
-pub mod Given

@@ -1,0 +1,45 @@
+-- The line of a listing for a block given out.
+use mathlib.Core.List.{List, _∷_}
+use Prim.Native.Nat.{ℕ, _+_, _*_, _≤_}
+use lib.ListN.{length}
+use Rattle.line.specs.declared.Given.{Given}
+use Rattle.text.specs.Text.{row}
+use Rattle.text.specs.Store.{Answered, Stored}
+use Rattle.text.specs.declared.Put.{Put}
+
+-- the nine numbers of the header, in its order: squared speeds in (µm/s)², lengths in µm, the acceleration in µm/s²
+abbrev pub listedOf : Given → List ℕ
+listedOf g =
+    g .block .mark
+    ∷ g .length
+    ∷ g .accel
+    ∷ g .entry
+    ∷ g .ramp .peak
+    ∷ g .exit
+    ∷ g .ramp .up
+    ∷ g .ramp .cruise
+    ∷ g .ramp .down
+    ∷ []
+
+-- their line
+unfoldable pub givenText : Given → List ℕ
+givenText g = row (listedOf g)
+
+-- most bytes of such a line
+abbrev pub mostGiven : ℕ
+mostGiven = 190
+
+-- a row is stored whole where it has room, else not at all; numbers of 64 bits make no longer one
+pub record PutRow (s : List ℕ) (at : ℕ) (numbers : List ℕ) (answer : Put) (after : List ℕ) : Type 0 where
+  pub answered : Answered s at (row numbers) answer after
+  pub short : length (row numbers) ≤ 21 * length numbers + 1
+
+-- the line is stored whole where it has room, else not at all
+pub record PutGiven (s : List ℕ) (at : ℕ) (g : Given) (answer : Put) (after : List ℕ) : Type 0 where
+  pub answered : Answered s at (givenText g) answer after
+  pub short : length (givenText g) ≤ mostGiven
+
+-- a line that had room, stored from place `at` on
+pub record WroteLine (line text : List ℕ) (at end : ℕ) (text′ : List ℕ) : Type 0 where
+  pub few : end ≤ at + mostGiven
+  pub stored : Stored text at line end text′

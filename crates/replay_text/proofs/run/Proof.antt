@@ -1,0 +1,55 @@
+-- `replay_text::run`: before call k those before it have been run, each line behind the one before it. From `ran-none` and `ran-more`.
+use mathlib.Core.Path.{_≡_, subst}
+use Prim.Native.Nat.{ℕ, _+_, _-_, _*_, _≤_}
+use native.Mathlib.Omega.{arith}
+use lib.ListN.{length}
+use Rattle.replay.specs.Trace.{callsFrom}
+use Rattle.replay_text.specs.Chunks.{lineBytes, textBytes, chunkSize}
+use Rattle.replay_text.specs.Runs.{RanText}
+use Rattle.replay_text.proofs.Runs.{ran-none, ran-more}
+use borrow.Author.Needs.{needs}
+use Rattle.replay_text.proofs.run.Statement.{statement}
+use Rattle.replay_text.proofs.run.Tie as tie
+
+abbrev Inv-loop : tie.InvT-loop
+Inv-loop bytes memory₀ text₀ n end₀ k₀ memory text end k = (k ≤ n) × ((n ≡ chunkSize bytes) × ((length text ≡ textBytes) × ((end ≤ lineBytes * k) × RanText (callsFrom bytes 0 k) memory₀ memory text₀ end text)))
+
+abbrev μ-loop : tie.MeasureT-loop
+μ-loop bytes memory₀ text₀ n end₀ k₀ memory text end k = n - k
+
+loop-holds : tie.Need-loop-holds Inv-loop μ-loop
+loop-holds c = let s = c .before .before .before .args in (search needs, (c .calls-of .ensures, (c .before .before .before .pre, (omega arith, ran-none (s .bytes .now) (s .memory .now) (s .text .now)))))
+
+loop-again : tie.Need-loop-again Inv-loop μ-loop
+loop-again c =
+    let s = c .before .before in
+    let l = s .before .before .before .before .before in
+    let few : s .run-call .result ≤ lineBytes * (l .loop .k + 1) = omega (arith, s .run-call .ensures .few) in
+    (search needs, (l .loop .inv .1 .0, (search needs, (few, ran-more (l .before .before .before .before .args .bytes .now) (l .loop .k) (omega arith) (l .loop .inv .1 .1 .1 .1) (s .run-call .ensures)))))
+
+returns : tie.Need-returns Inv-loop μ-loop
+returns c =
+    let l = c .before in
+    let s = l .before .before .before .before .args in
+    let all : l .loop .k ≡ chunkSize (s .bytes .now) = omega arith in
+    subst (λ (n : ℕ). RanText (callsFrom (s .bytes .now) 0 n) (s .memory .now) (l .loop .memory) (s .text .now) (l .loop .end) (l .loop .text)) all (l .loop .inv .1 .1 .1 .1)
+
+pub run-spec : {M : Type 1} → statement M
+run-spec =
+    tie.close
+    (tie.spec
+    Inv-loop
+    μ-loop
+    (λ c κs. search needs)
+    loop-holds
+    (λ c. search needs)
+    (λ c. search needs)
+    (λ c. search needs)
+    (λ c. search needs)
+    (λ c. search needs)
+    (λ c κs. search needs)
+    (λ c. search needs)
+    (λ c. search needs)
+    loop-again
+    (λ c. search needs)
+    returns)

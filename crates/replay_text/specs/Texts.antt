@@ -1,0 +1,50 @@
+-- The text of a trace that is run: a line for each answer, one for a cut call, and the two closing lines.
+use Prim.Native.Nat.{ℕ, _+_, _-_, _/_, _%_}
+use mathlib.Core.Bool.{cond}
+use mathlib.Core.List.{List, _∷_, _++_}
+use lib.Dec.{eqb}
+use lib.ListN.{length}
+use Rattle.machine.specs.declared.Limits.{Limits}
+use Rattle.line.specs.Answers.{Answer, accepted, gave, refused}
+use Rattle.line.specs.Blocks.{Call, freshLine, lineAnswers, lineAfterAll, linePlan}
+use Rattle.text.specs.Text as text
+use Rattle.listing.specs.Given.{givenText}
+use Rattle.tape.specs.Tape.{limitsBytes, limitsAt}
+use Rattle.display.specs.Display.{byNumber}
+use Rattle.tape.specs.Answers.{limitsReadRefusal}
+use Rattle.replay.specs.Trace.{callBytes, traceCalls}
+
+-- the line of an answer
+unfoldable pub answerText : Answer → List ℕ
+answerText accepted = text.added
+answerText (gave g) = givenText g
+answerText (refused n) = text.refused n
+
+-- the lines of a list of answers, one behind the other
+unfoldable pub answersText : List Answer → List ℕ
+answersText [] = []
+answersText (a ∷ answers) = answerText a ++ answersText answers
+
+-- the two closing lines: the number of blocks held, and the plan
+abbrev pub closingText : (told : ℕ) (plan : List ℕ) → List ℕ
+closingText told plan = text.held told ++ text.plan plan
+
+-- the place from 1 of the call that bytes behind whole calls end inside; 0 where they end with a whole call
+abbrev pub cutPlace : (calls bytes : ℕ) → ℕ
+cutPlace calls bytes = cond (eqb (bytes % callBytes) 0) 0 (calls + bytes / callBytes + 1)
+
+-- the line of a cut call with its place; no line where the place is 0
+abbrev pub cutText : (place : ℕ) → List ℕ
+cutText place = byNumber place [] (text.refusedAt 9 place)
+
+-- the text of calls from a fresh planner with limits l, behind which a call is cut at a place, or none
+abbrev pub callsText : Limits → List Call → (place : ℕ) → List ℕ
+callsText l calls place =
+    answersText (lineAnswers (freshLine l) calls)
+    ++ cutText place
+    ++ closingText (length (lineAfterAll (freshLine l) calls .blocks)) (linePlan (lineAfterAll (freshLine l) calls))
+
+-- the text of the trace of any bytes: of its whole calls, or the refusal's line where it has no whole limits (9) or limits that do not pass (1)
+unfoldable pub replayText : List ℕ → List ℕ
+replayText s =
+    byNumber (limitsReadRefusal s) (callsText (limitsAt s) (traceCalls s) (cutPlace 0 (length s - limitsBytes))) (text.refusedAt (limitsReadRefusal s) 0)

@@ -1,3 +1,0 @@
--- The listing of a whole tape.
-pub mod Listing
-pub mod Parts

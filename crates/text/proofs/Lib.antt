@@ -1,0 +1,4 @@
+pub mod Decimal
+pub mod Store
+pub mod Lines
+pub mod Cases

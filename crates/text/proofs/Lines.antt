@@ -1,0 +1,79 @@
+-- Numbers, spaced numbers, lines and rows as they are stored, and how long they are. From the laws of decimals and of texts stored.
+use mathlib.Core.Path.{_≡_, refl, _∙_}
+use Prim.Native.Nat.{ℕ, suc, _+_, _-_, _*_, _/_, _%_, _^_, _≤_, _<_}
+use native.Mathlib.Omega.{arith}
+use native.Mathlib.Numerals.{add-one}
+use mathlib.Core.List.{List, _∷_, _++_, append-nil}
+use lib.ListN.{length, getD, take, drop, set, length-append}
+use lib.Seq.{take-all, drop-cons, lt-length-set}
+use Rattle.text.specs.Store.{put, Stored}
+use Rattle.text.specs.Text.{space, lineFeed, digit, decimal, spaced, line, row, refusedWords}
+use Rattle.text.proofs.Decimal.{decimal-one, decimal-more, length-one, length-more, length-word}
+use Rattle.text.proofs.Store.{put-one, put-next, put-cons, put-last}
+
+-- One digit of a number, from the last to the first, and one of several numbers: what is left to store leads to the same list.
+pub number-turn : (s : List ℕ) (at n last : ℕ) → 10 ≤ n → last + 1 ≡ at + length (decimal n) → last < length s
+    → put (set s last (digit (n % 10))) at (decimal (n / 10)) ≡ put s at (decimal n)
+number-turn s at n last h e l =
+    let place : last ≡ at + length (decimal (n / 10)) = omega (arith, length-more n h) in
+    rw (place, decimal-more n h) (put-last s at (decimal (n / 10)) (digit (n % 10)) (omega arith))
+
+pub number-end : (s : List ℕ) (at n last : ℕ) → n < 10 → last + 1 ≡ at + length (decimal n) → last < length s
+    → set s last (digit n) ≡ put s at (decimal n)
+number-end s at n last h e l =
+    let place : last ≡ at = omega (arith, length-one n h) in
+    rw (place, decimal-one n h) (put-one s at (digit n) (omega arith))
+
+pub spaced-turn : (s : List ℕ) (at : ℕ) (numbers : List ℕ) (i : ℕ) {after : List ℕ} {end : ℕ} → at < length s → i < length numbers
+    → Stored (set s at space) (at + 1) (decimal (getD numbers i 0)) end after
+    → put after end (spaced (drop (i + 1) numbers)) ≡ put s at (spaced (drop i numbers))
+unfolding spaced
+spaced-turn s at numbers i l h r =
+    let n : ℕ = getD numbers i 0 in
+    rw (r .bytes, r .next, drop-cons numbers i 0 h, add-one i)
+    (put-next (set s at space) (at + 1) (decimal n) (spaced (drop (suc i) numbers)) (omega (arith, lt-length-set s at space l))
+    ∙ put-cons s at space (decimal n ++ spaced (drop (suc i) numbers)) l)
+
+-- How much of it one number takes.
+pub length-spaced : (numbers : List ℕ) (i : ℕ) → i < length numbers
+    → length (spaced (drop i numbers)) ≡ length (decimal (getD numbers i 0)) + 1 + length (spaced (drop (i + 1) numbers))
+unfolding spaced
+length-spaced numbers i h =
+    rw (drop-cons numbers i 0 h, add-one i, length-append (decimal (getD numbers i 0)) (spaced (drop (suc i) numbers))) (omega arith)
+
+pub length-line : (words numbers : List ℕ) → length (line words numbers) ≡ length words + length (spaced numbers) + 1
+unfolding line
+length-line words numbers = rw (length-append (words ++ spaced numbers) (lineFeed ∷ []), length-append words (spaced numbers))
+
+-- A row is a line feed alone, or a line whose words are its first number.
+pub row-none : (numbers : List ℕ) → length numbers ≡ 0 → row numbers ≡ lineFeed ∷ []
+unfolding row
+row-none [] e = refl
+row-none (n ∷ numbers) e = absurd (omega arith)
+
+pub row-some : (numbers : List ℕ) → 0 < length numbers
+    → row numbers ≡ line (decimal (getD numbers 0 0)) (take (length numbers - 1) (drop 1 numbers))
+unfolding row
+row-some [] h = absurd (omega arith)
+row-some (n ∷ numbers) h = rw (take-all (length (n ∷ numbers) - 1) numbers (omega arith))
+
+-- Numbers of 64 bits take at most 21 bytes each, with the space before them.
+pub spaced-most : (numbers : List ℕ) → ((i : ℕ) → getD numbers i 0 < 2 ^ 64) → length (spaced numbers) ≤ 21 * length numbers
+unfolding spaced
+spaced-most [] h = omega arith
+spaced-most (n ∷ numbers) h =
+    rw (length-append (decimal n) (spaced numbers)) (omega (arith, length-word n (h 0), spaced-most numbers (λ i. h (suc i))))
+
+pub refused-most : (number : ℕ) → number < 2 ^ 64 → length (refusedWords number) ≤ 31
+unfolding refusedWords spaced
+refused-most number h =
+    rw (append-nil (decimal number), length-append (decimal number) (space ∷ 97 ∷ 116 ∷ [])) (omega (arith, length-word number h))
+
+pub line-most : (words numbers : List ℕ) → ((i : ℕ) → getD numbers i 0 < 2 ^ 64)
+    → length (line words numbers) ≤ length words + 21 * length numbers + 1
+line-most words numbers h = omega (arith, length-line words numbers, spaced-most numbers h)
+
+pub row-most : (numbers : List ℕ) → ((i : ℕ) → getD numbers i 0 < 2 ^ 64) → length (row numbers) ≤ 21 * length numbers + 1
+unfolding row
+row-most [] h = omega arith
+row-most (n ∷ numbers) h = omega (arith, line-most (decimal n) numbers (λ i. h (suc i)), length-word n (h 0))
