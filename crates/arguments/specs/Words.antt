@@ -2,7 +2,7 @@
 use mathlib.Core.Path.{_≡_}
 use Prim.Native.Nat.{ℕ}
 use mathlib.Core.Bool.{Bool, true, cond}
-use mathlib.Core.List.{List, _∷_, _++_}
+use mathlib.Core.List.{List, _∷_, _++_, []}
 use lib.Dec.{ltb, eqb}
 use Rattle.arguments.specs.declared.Asked.{Asked}
 use Rattle.arguments.specs.declared.Asked.the-variants.{Work, Usage, Wrong}

@@ -1,6 +1,6 @@
 -- Document 01's starred proof cases, in its order: what the definitions compute, and what the paper says.
 -- The theorem `every-case-holds` of `proofs/` proves them together.
-use mathlib.Core.List.{List, _∷_, _++_, map}
+use mathlib.Core.List.{List, _∷_, _++_, map, []}
 use mathlib.Core.Path.{_≡_}
 use Prim.Native.Nat.{ℕ}
 use lib.IntN.{pos, negℤ}

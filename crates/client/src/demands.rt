@@ -1,6 +1,6 @@
 // Demand 3 of calls that are made: two adds and a take in lent memory, by value and through the
 // functions for C, and the plan of a tape. Each is the planner's theorem at the call's own promises.
-ghost use mathlib.Core.List.{_∷_};
+ghost use mathlib.Core.List.{_∷_, []};
 ghost use mathlib.Core.Path.{_≡_};
 ghost use Prim.Native.Nat.{_+_};
 ghost use lib.ListN.{length};

@@ -49,7 +49,7 @@ pub next-check : (t : Bool) {n m : ℕ} → 0 < n → cond t n m ≡ 0 → (t �
 next-check true h e = absurd (omega arith)
 next-check false h e = (refl, e)
 
-pub not-picked : (t : Bool) {n m : ℕ} → 0 < n → cond t n m ≡ 0 → t ≡ false
+pub not-picked : (t : Bool) {n : ℕ} → 0 < n → cond t n 0 ≡ 0 → t ≡ false
 not-picked t h e = next-check t h e .0
 
 -- A choice of 0 or a number above 0 that comes to 0 was for 0.

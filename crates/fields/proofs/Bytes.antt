@@ -3,7 +3,7 @@ use mathlib.Core.Path.{_≡_, refl, sym, ap, _∙_}
 use Prim.Native.Nat.{ℕ, zero, suc, _+_, _-_, _*_, _/_, _%_, _^_, _≤_, _<_}
 use native.Mathlib.Nat.{mod-lt, add-zero, lt-of-lt-of-le, add-assoc, div-add-mod', div-one, mod-mod, le-of-eq}
 use native.Mathlib.Omega.{arith}
-use mathlib.Core.List.{List, _∷_, _++_, append-assoc, append-nil}
+use mathlib.Core.List.{List, _∷_, _++_, append-assoc, append-nil, []}
 use lib.ListN.{length, getD, take, drop, set, length-append, length-drop, take-append-drop, length-replicate, replicate-append-replicate}
 use lib.Seq.{length-take-le, drop-cons, take-at, drop-at, getD-drop, take-set-le, drop-set-lt, drop-drop, take-add, lt-length-set, getD-set-same}
 use lib.Pow as Pow

@@ -1,6 +1,6 @@
 -- Worked examples of the definitions, which compute.
 use mathlib.Core.Path.{_≡_, refl}
-use mathlib.Core.List.{_∷_}
+use mathlib.Core.List.{_∷_, []}
 use lib.IntN.{pos, negsuc}
 use Rattle.fields.specs.Layouts.{joined, split}
 use Rattle.fields.specs.Bytes.{numberOf, bytesOf}

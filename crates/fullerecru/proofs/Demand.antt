@@ -1,5 +1,5 @@
 -- Demand 3 of the functions for C, from what they promise and the planner's theorem alone.
-use mathlib.Core.List.{List, _∷_}
+use mathlib.Core.List.{List, _∷_, []}
 use mathlib.Core.Path.{_≡_, refl}
 use Prim.Native.Nat.{ℕ}
 use Rattle.machine.specs.declared.Limits.{Limits}

@@ -1,5 +1,5 @@
 -- A block's moves as a list for C.
-use mathlib.Core.List.{List, _∷_}
+use mathlib.Core.List.{List, _∷_, []}
 use lib.IntN.{ℤ}
 use Rattle.machine.specs.declared.Block.{Block}
 

@@ -1,5 +1,5 @@
 -- What the functions for C on whole tapes and traces return and leave in the lists that they are lent.
-use mathlib.Core.List.{List, _∷_}
+use mathlib.Core.List.{List, _∷_, []}
 use mathlib.Core.Path.{_≡_}
 use Prim.Native.Nat.{ℕ, _<_}
 use lib.ListN.{length}

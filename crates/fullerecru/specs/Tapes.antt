@@ -1,5 +1,5 @@
 -- What the functions for C on limits and records as bytes return and leave in the lists that they are lent.
-use mathlib.Core.List.{List, _∷_}
+use mathlib.Core.List.{List, _∷_, []}
 use mathlib.Core.Path.{_≡_}
 use Prim.Native.Nat.{ℕ}
 use lib.IntN.{ℤ}

@@ -1,6 +1,6 @@
 // The plan of a whole tape, and the run of a trace, for C. Bytes and lists are handed over as a
 // pointer and their length.
-ghost use mathlib.Core.List.{_∷_};
+ghost use mathlib.Core.List.{_∷_, []};
 ghost use mathlib.Core.Path.{_≡_};
 ghost use lib.ListN.{length};
 ghost use Rattle.fullerecru.specs.Plans.{PlanLent, ReplayLent};

@@ -1,7 +1,7 @@
 -- A list of calls of any length, refused ones included: a ring that holds the fresh line is answered as the line says and holds the line
 -- after them. From the laws of one call.
 use mathlib.Core.Path.{_≡_, refl, _∙_}
-use mathlib.Core.List.{List, _∷_}
+use mathlib.Core.List.{List, _∷_, []}
 use Prim.Native.Nat.{ℕ, zero, suc}
 use native.Mathlib.Omega.{arith}
 use lib.ListN.{length}

@@ -1,5 +1,5 @@
 -- Document 01, "The line of blocks, from the calls alone". Nothing here names what a planner keeps.
-use mathlib.Core.List.{List, _∷_, _++_}
+use mathlib.Core.List.{List, _∷_, _++_, []}
 use Prim.Native.Nat.{ℕ, zero, suc}
 use lib.Dec.{leb}
 use lib.ListN.{length}

@@ -1,6 +1,6 @@
 -- The ring of 64 places that holds a line, number by number as it stands in memory, and what a call answers and leaves there.
 -- Every content of the memory has an answer; what is read is cut to the size that the arithmetic takes.
-use mathlib.Core.List.{List, _∷_}
+use mathlib.Core.List.{List, _∷_, []}
 use mathlib.Core.Bool.{true, false, cond}
 use Prim.Native.Nat.{ℕ, zero, suc, _+_, _-_, _*_, _%_, _^_, min}
 use lib.Dec.{eqb}

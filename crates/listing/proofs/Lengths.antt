@@ -1,6 +1,6 @@
 -- How long the header and a refusal's line are. From the laws of lines.
 use mathlib.Core.Path.{_≡_}
-use mathlib.Core.List.{_∷_}
+use mathlib.Core.List.{_∷_, []}
 use Prim.Native.Nat.{ℕ, zero, suc, _^_, _≤_, _<_}
 use native.Mathlib.Omega.{arith}
 use lib.ListN.{length, getD}

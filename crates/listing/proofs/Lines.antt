@@ -1,7 +1,7 @@
 -- The lines of records, one behind the other: as they are stored, and that those of an accepted tape are its listing's. From the laws of texts stored and
 -- of an accepted tape.
 use mathlib.Core.Path.{_≡_, refl, sym, ap, _∙_}
-use mathlib.Core.List.{List, _++_, append-assoc}
+use mathlib.Core.List.{List, _++_, append-assoc, []}
 use Prim.Native.Nat.{ℕ, zero, suc, _+_, _-_, _*_, _≤_, _<_, min}
 use native.Mathlib.Decide.{decLt}
 use native.Mathlib.Nat.{add-zero, zero-add, le-of-eq}

@@ -1,5 +1,5 @@
 -- The line of a listing for a block given out.
-use mathlib.Core.List.{List, _∷_}
+use mathlib.Core.List.{List, _∷_, []}
 use Prim.Native.Nat.{ℕ, _+_, _*_, _≤_}
 use lib.ListN.{length}
 use Rattle.line.specs.declared.Given.{Given}

@@ -1,5 +1,5 @@
 -- Document 01's listing of a whole tape, as bytes.
-use mathlib.Core.List.{List, _∷_, _++_}
+use mathlib.Core.List.{List, _∷_, _++_, []}
 use Prim.Native.Nat.{ℕ, _+_}
 use lib.ListN.{drop}
 use Rattle.profile.specs.Line.{numberAt}

@@ -1,7 +1,7 @@
 -- Block speed and acceleration are the largest numbers of document 01, and no axis limit is broken. From arith's laws of the
 -- capped quotient and the laws of the length.
 use mathlib.Core.Path.{_≡_, refl, sym, subst}
-use mathlib.Core.List.{List, _∷_}
+use mathlib.Core.List.{List, _∷_, []}
 use mathlib.Core.Bool.{Bool, true, _&&_}
 use Prim.Native.Nat.{ℕ, zero, suc, _-_, _*_, _/_, _≤_, _<_, max}
 use native.Mathlib.Nat.{le-trans, le-of-lt, lt-of-not-le, mul-le-mul, mul-le-mul-left, mul-le-mul-right, le-max-left, max-le, max-eq-left, max-eq-right, mul-comm, mul-left-comm, mul-assoc, mul-pos, le-of-mul-le-mul-right, div-le-of-le-mul}

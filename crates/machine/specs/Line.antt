@@ -1,5 +1,5 @@
 -- A line of blocks as a profile sees it: the junction cap where each block begins, and its reach, in (µm/s)².
-use mathlib.Core.List.{List, _∷_}
+use mathlib.Core.List.{List, _∷_, []}
 use Rattle.profile.specs.Line.{Span}
 use Rattle.machine.specs.Numbers.{junctionCap, reachOf}
 use Rattle.machine.specs.declared.Limits.{Limits}

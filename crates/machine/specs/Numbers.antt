@@ -1,6 +1,6 @@
 -- Document 01, "From a block to its numbers" and the ramp of "Plan, give out, ramp".
 -- Lengths are in µm, speeds in µm/s, squared speeds and reaches in (µm/s)², accelerations in µm/s².
-use mathlib.Core.List.{List, _∷_}
+use mathlib.Core.List.{List, _∷_, []}
 use Prim.Native.Nat.{ℕ, zero, suc, _+_, _-_, _*_, _/_, _^_, _≤_, _<_, min, max}
 use mathlib.Core.Bool.{Bool, _&&_, cond}
 use lib.Dec.{leb, ltb, eqb}

@@ -1,6 +1,6 @@
 -- The memory as a ring: what is read of a place, and what the view is after stores.
 use mathlib.Core.Bool.{Bool, true, false}
-use mathlib.Core.List.{List, _∷_, append-nil}
+use mathlib.Core.List.{List, _∷_, append-nil, []}
 use mathlib.Core.Path.{_≡_, refl, sym, ap, _∙_}
 use Prim.Native.Nat.{ℕ, zero, suc, _+_, _-_, _*_, _/_, _%_, _≤_, _<_}
 use borrow.Author.Tests.{ltb-true, ltb-false}

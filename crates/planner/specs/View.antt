@@ -1,5 +1,5 @@
 -- A planner's memory, 780 numbers, read as a ring: 12 numbers of the head, then 12 for each of the 64 places.
-use mathlib.Core.List.{List, _∷_}
+use mathlib.Core.List.{List, _∷_, []}
 use Prim.Native.Nat.{ℕ, zero, suc, _+_, _*_}
 use lib.ListN.{getD}
 use Rattle.machine.specs.Lists.{limitsFrom}

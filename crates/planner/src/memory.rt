@@ -1,7 +1,7 @@
 // The numbers of a planner's memory: where each stands, read and stored. Indices are within the
 // memory whatever it holds.
 ghost use mathlib.Core.Path.{_≡_};
-ghost use mathlib.Core.List.{_∷_};
+ghost use mathlib.Core.List.{_∷_, []};
 ghost use mathlib.Core.Bool.{cond};
 ghost use Prim.Native.Nat.{_+_, _-_, _%_, _≤_};
 ghost use lib.Dec.{leb};

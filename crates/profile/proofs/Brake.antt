@@ -1,6 +1,6 @@
 -- Laws of the backward pass, by the index of a junction, from the definitions `brake` and `startLimit`.
 use mathlib.Core.Path.{_≡_, ap}
-use mathlib.Core.List.{List, _∷_, _++_}
+use mathlib.Core.List.{List, _∷_, _++_, []}
 use Prim.Native.Nat.{ℕ, zero, suc, _+_, _-_, _≤_, _<_, zero-le}
 use native.Mathlib.Nat.{le-refl}
 use native.Mathlib.Numerals.{add-one}

@@ -1,7 +1,7 @@
 -- Worked plans, computed from the definitions, in (µm/s)². The first three have the caps and reaches of document 01's proof
 -- cases on machine M.
 use mathlib.Core.Path.{_≡_, refl}
-use mathlib.Core.List.{_∷_}
+use mathlib.Core.List.{_∷_, []}
 use Prim.Native.Nat.{ℕ}
 use Rattle.profile.specs.Line.{Span}
 use Rattle.profile.specs.Passes.{brake, startLimit, forward, planOf}

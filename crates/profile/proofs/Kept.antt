@@ -2,7 +2,7 @@
 -- pass's (`Braked`) and the plan's (`Planned`), and what stays right when a step is added or taken. From the laws of the passes.
 use mathlib.Core.Logic.{_≢_}
 use mathlib.Core.Path.{_≡_, refl, _∙_, sym}
-use mathlib.Core.List.{List, _∷_, _++_}
+use mathlib.Core.List.{List, _∷_, _++_, []}
 use Prim.Native.Nat.{ℕ, zero, suc, _+_, _-_, _≤_, _<_}
 use native.Mathlib.Nat.{le-refl, add-comm}
 use native.Mathlib.Omega.{arith}

@@ -1,7 +1,7 @@
 -- Lawful and highest profiles of a line of blocks, in the words of document 01, "Plan, give out, ramp".
 -- Speeds, caps and reaches are squared speeds, in (µm/s)².
 use mathlib.Core.Path.{_≡_}
-use mathlib.Core.List.{List, _∷_}
+use mathlib.Core.List.{List, _∷_, []}
 use Prim.Native.Nat.{ℕ, _+_, _≤_, _<_}
 use lib.ListN.{length, getD}
 

@@ -2,7 +2,7 @@
 -- All numbers are squared speeds, in (µm/s)².
 use mathlib.Core.Bool.{Bool, cond}
 use mathlib.Core.Path.{_≡_}
-use mathlib.Core.List.{List, _∷_}
+use mathlib.Core.List.{List, _∷_, []}
 use Prim.Native.Nat.{ℕ, _+_, _≤_, min}
 use lib.Dec.{leb}
 use lib.ListN.{length, drop, replicate}

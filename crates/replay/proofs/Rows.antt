@@ -1,5 +1,5 @@
 -- Rows: how many numbers, and of one answer more. From the definitions.
-use mathlib.Core.List.{List, _∷_, _++_, append-nil, append-assoc}
+use mathlib.Core.List.{List, _∷_, _++_, append-nil, append-assoc, []}
 use mathlib.Core.Path.{_≡_, refl, sym, ap, _∙_}
 use Prim.Native.Nat.{ℕ, _+_, _*_, _≤_}
 use native.Mathlib.Omega.{arith}

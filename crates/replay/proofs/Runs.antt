@@ -1,5 +1,5 @@
 -- A run of calls, one call more, and demand 3 of all. From the laws of rows and the planner's theorem.
-use mathlib.Core.List.{List, _∷_, _++_}
+use mathlib.Core.List.{List, _∷_, _++_, []}
 use mathlib.Core.Path.{_≡_, refl, sym, ap, subst, _∙_}
 use Prim.Native.Nat.{ℕ, zero, suc, _+_, _-_, _*_, _/_, _≤_}
 use native.Mathlib.Nat.{add-zero, zero-add}

@@ -1,6 +1,6 @@
 -- An answer as a row of 15 numbers.
 use Prim.Native.Nat.{ℕ}
-use mathlib.Core.List.{List, _∷_, _++_}
+use mathlib.Core.List.{List, _∷_, _++_, []}
 use lib.IntN.{pos}
 use Rattle.fields.specs.Signed.{bitsOf}
 use Rattle.line.specs.Answers.{Answer, accepted, gave, refused}

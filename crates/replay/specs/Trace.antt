@@ -1,7 +1,7 @@
 -- A trace: the limits as on tape, then 28 bytes a call, seven 32-bit words, most significant byte first.
 use Prim.Native.Nat.{ℕ, zero, suc, _+_, _-_, _*_, _/_, _%_}
-use mathlib.Core.Bool.{not, cond}
-use mathlib.Core.List.{List, _∷_}
+use mathlib.Core.Bool.{not, cond, _||_}
+use mathlib.Core.List.{List, _∷_, []}
 use lib.Dec.{ltb, eqb}
 use lib.ListN.{length, take, drop}
 use Rattle.fields.specs.Fields.{fieldOf}

@@ -1,6 +1,6 @@
 -- A run of the calls of a chunk, one call more, and the closing. From the laws of lines, the planner's promises, and line's laws of a ring that holds a
 -- line.
-use mathlib.Core.List.{List, _∷_, _++_, append-nil, append-assoc}
+use mathlib.Core.List.{List, _∷_, _++_, append-nil, append-assoc, []}
 use mathlib.Core.Path.{_≡_, refl, sym, ap, subst, _∙_}
 use Prim.Native.Nat.{ℕ, _+_, _-_, _*_, _≤_}
 use native.Mathlib.Nat.{zero-add}

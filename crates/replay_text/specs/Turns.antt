@@ -1,6 +1,6 @@
 -- A trace run chunk by chunk: which chunks, and what is written.
 use mathlib.Core.Path.{_≡_}
-use mathlib.Core.List.{List, _∷_, _++_}
+use mathlib.Core.List.{List, _∷_, _++_, []}
 use Prim.Native.Nat.{ℕ, _+_, _*_, _≤_}
 use lib.ListN.{length, take}
 use Rattle.replay.specs.Trace.{callBytes}

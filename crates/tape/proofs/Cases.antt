@@ -1,7 +1,7 @@
 -- Worked examples of the definitions, which compute: the bytes were packed apart from them.
 use mathlib.Core.Path.{_≡_, refl}
 use Prim.Native.Nat.{ℕ}
-use mathlib.Core.List.{List, _∷_, _++_}
+use mathlib.Core.List.{List, _∷_, _++_, []}
 use lib.IntN.{pos, negsuc}
 use lib.ListN.{replicate}
 use Rattle.machine.specs.Lists.{limitsFrom}

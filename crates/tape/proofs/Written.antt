@@ -1,7 +1,7 @@
 -- A record written in its place on a tape: its 16 bytes are stored, and all else stays. From the laws of bytes and of one record.
 use mathlib.Core.Logic.{_⊎_, inl, inr}
 use mathlib.Core.Path.{_≡_, refl, sym, ap, subst, _∙_}
-use mathlib.Core.List.{List, _∷_, _++_, append-assoc, append-nil}
+use mathlib.Core.List.{List, _∷_, _++_, append-assoc, append-nil, []}
 use Prim.Native.Nat.{ℕ, zero, suc, _+_, _-_, _*_, _≤_, _<_, min}
 use native.Mathlib.Decide.{ℕ-discrete, decLe}
 use native.Mathlib.Nat.{zero-min, min-zero, suc-min-suc, lt-of-not-le, le-of-eq, eq-zero-or-pos}

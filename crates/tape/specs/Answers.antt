@@ -1,8 +1,8 @@
 -- Document 01, "Numbers on the display": what reading, writing and checking a tape answer.
 use Prim.Native.Nat.{ℕ, suc, _-_, _%_}
 use mathlib.Core.Path.{_≡_}
-use mathlib.Core.Bool.{not, cond}
-use mathlib.Core.List.{List, _∷_, _++_}
+use mathlib.Core.Bool.{not, cond, _||_}
+use mathlib.Core.List.{List, _∷_, _++_, []}
 use lib.Dec.{ltb, eqb}
 use lib.ListN.{length, take, drop}
 use Rattle.display.specs.Display.{refusalNumber, checkedMeans, byNumber, _then_, Outcome, orRefused, Fault, _at_, _else_, given, refused}

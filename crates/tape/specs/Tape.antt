@@ -1,6 +1,6 @@
 -- Document 01, "Tape": what the bytes of a tape say, as the number that they write, most significant byte first.
 use Prim.Native.Nat.{ℕ, zero, suc, _+_, _-_, _*_, _/_}
-use mathlib.Core.List.{List, _∷_}
+use mathlib.Core.List.{List, _∷_, []}
 use lib.ListN.{length, take, drop, getD}
 use Rattle.fields.specs.Layouts.{joined, split}
 use Rattle.fields.specs.Bytes.{numberOf}

@@ -1,6 +1,6 @@
 -- A line of blocks from the list of its junction caps and that of its reaches.
 use mathlib.Core.Path.{_≡_}
-use mathlib.Core.List.{List, _∷_}
+use mathlib.Core.List.{List, _∷_, []}
 use Prim.Native.Nat.{ℕ, _+_}
 use lib.ListN.{length}
 use Rattle.profile.specs.Line.{Span, numberAt}

@@ -1,6 +1,6 @@
 -- Lines of a listing and of a replay, which the definitions compute.
 use mathlib.Core.Path.{_≡_, refl}
-use mathlib.Core.List.{_∷_}
+use mathlib.Core.List.{_∷_, []}
 use Rattle.text.specs.Text.{digitsOf, decimal, spaced, line, row, refusedWords, refusedAt, refused, held, plan}
 
 -- `0` and `18446744073709551615`

@@ -3,7 +3,7 @@ use mathlib.Core.Path.{_≡_, refl, _∙_}
 use Prim.Native.Nat.{ℕ, suc, _+_, _-_, _*_, _/_, _%_, _^_, _≤_, _<_}
 use native.Mathlib.Omega.{arith}
 use native.Mathlib.Numerals.{add-one}
-use mathlib.Core.List.{List, _∷_, _++_, append-nil}
+use mathlib.Core.List.{List, _∷_, _++_, append-nil, []}
 use lib.ListN.{length, getD, take, drop, set, length-append}
 use lib.Seq.{take-all, drop-cons, lt-length-set}
 use Rattle.text.specs.Store.{put, Stored}

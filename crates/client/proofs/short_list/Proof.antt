@@ -1,5 +1,5 @@
 -- `client::short_list` meets its contract: the list is not one longer than the line, so 11 answers and it stays.
-use mathlib.Core.List.{List, _∷_}
+use mathlib.Core.List.{List, _∷_, []}
 use mathlib.Core.Path.{_≡_, sym, ap, _∙_}
 use Prim.Native.Nat.{ℕ}
 use borrow.Author.Needs.{needs}

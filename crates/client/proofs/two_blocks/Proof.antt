@@ -1,5 +1,5 @@
 -- `client::two_blocks` meets its contract: what each check expects follows from the planner's promises by the line.
-use mathlib.Core.List.{List, _∷_}
+use mathlib.Core.List.{List, _∷_, []}
 use mathlib.Core.Path.{_≡_, refl, ap, _∙_}
 use Prim.Native.Nat.{ℕ}
 use borrow.Author.Needs.{needs}

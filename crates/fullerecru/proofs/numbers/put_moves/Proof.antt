@@ -1,5 +1,5 @@
 -- `fullerecru::numbers::put_moves`: the list is stored whole.
-use mathlib.Core.List.{_∷_}
+use mathlib.Core.List.{_∷_, []}
 use mathlib.Core.Path.{_∙_}
 use lib.Seq.{sets}
 use Rattle.arith.proofs.SignedLaws.{field-back}

@@ -1,5 +1,5 @@
 -- `fullerecru::plans::fullerecru_plan_tape`: the promise of `plan_tape` by number and place.
-use mathlib.Core.List.{_∷_}
+use mathlib.Core.List.{_∷_, []}
 use mathlib.Core.Path.{sym, ap, _∙_}
 use borrow.Author.Needs.{needs}
 use Rattle.tapeplan.specs.Planned.{plannedMeans}

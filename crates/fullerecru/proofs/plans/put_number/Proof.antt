@@ -1,5 +1,5 @@
 -- `fullerecru::plans::put_number`: the list is stored whole.
-use mathlib.Core.List.{_∷_}
+use mathlib.Core.List.{_∷_, []}
 use borrow.Author.Needs.{needs}
 use Rattle.planner.proofs.View.{sets-all}
 use Rattle.fullerecru.proofs.plans.put_number.Statement.{statement}

@@ -1,5 +1,5 @@
 -- `planner::memory::store_place`: twelve stores are a run.
-use mathlib.Core.List.{_∷_}
+use mathlib.Core.List.{_∷_, []}
 use mathlib.Core.Path.{ap, _∙_}
 use borrow.Author.Needs.{needs}
 use native.Mathlib.Omega.{arith}

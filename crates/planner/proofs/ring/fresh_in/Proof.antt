@@ -1,5 +1,5 @@
 -- `planner::ring::fresh_in`: one law for each way out.
-use mathlib.Core.List.{_∷_}
+use mathlib.Core.List.{_∷_, []}
 use mathlib.Core.Path.{sym, ap, _∙_}
 use borrow.Author.Needs.{needs}
 use Rattle.display.specs.Display.{refusalNumber, checkedMeans}
