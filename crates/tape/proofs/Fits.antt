@@ -4,7 +4,7 @@ use mathlib.Core.Bool.{Bool, true, false, _&&_}
 use Prim.Native.Nat.{ℕ, _^_, _≤_, _<_}
 use native.Mathlib.Omega.{arith}
 use borrow.Author.Tests.{leb-true}
-use lib.Dec.{leb}
+use lib.Dec.{leb, lit<}
 use lib.Signed.{mag}
 use Rattle.display.proofs.Answers.{picked}
 use Rattle.fields.specs.Layouts.{InWidths}
