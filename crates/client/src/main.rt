@@ -93,7 +93,7 @@ fn refused_still() {
     let answer = none.answer;
     match answer {
         AddAnswer::Added => check::expect(false),
-        AddAnswer::Refused(why) => check::expect(machine::check::refusal_number(why) == 2),
+        AddAnswer::Refused(why) => check::expect(display::refusal_number(why) == 2),
     }
     let same = none.planner;
     check::expect(same.told() == 1);
@@ -119,7 +119,7 @@ fn short_list() {
     let mut list = [7u64; 1];
     match held.shown(&mut list) {
         ShowAnswer::Shown => check::expect(false),
-        ShowAnswer::Refused(why) => check::expect(machine::check::refusal_number(why) == 11),
+        ShowAnswer::Refused(why) => check::expect(display::refusal_number(why) == 11),
     }
     check::expect(list[0] == 7);
 }

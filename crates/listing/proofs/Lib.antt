@@ -1,5 +1,5 @@
 -- The laws of a tape's listing.
-pub mod Given
+pub mod GivenLines
 pub mod Plans
 pub mod Lines
 pub mod Answers

@@ -33,6 +33,8 @@ use text::behind;
 use text::put_header;
 use text::put_refused_at;
 
+pub mod given;
+
 // Lines of a part at most, and parts of a listing at most.
 const BLOCKS: usize = 128;
 

@@ -1,7 +1,7 @@
 -- `replay_text::write_added`: the line has room.
 use native.Mathlib.Omega.{arith}
 use Rattle.replay_text.specs.Texts.{answerText}
-use Rattle.listing.proofs.Given.{wrote}
+use Rattle.listing.proofs.GivenLines.{wrote}
 use borrow.Author.Needs.{needs}
 use Rattle.replay_text.proofs.write_added.Statement.{statement}
 use Rattle.replay_text.proofs.write_added.Tie as tie

@@ -1,6 +1,6 @@
 -- `replay_text::write_refused`: the line has room.
 use Rattle.replay_text.specs.Texts.{answerText}
-use Rattle.listing.proofs.Given.{wrote}
+use Rattle.listing.proofs.GivenLines.{wrote}
 use Rattle.replay_text.proofs.Lines.{refused-few}
 use borrow.Author.Needs.{needs}
 use Rattle.replay_text.proofs.write_refused.Statement.{statement}

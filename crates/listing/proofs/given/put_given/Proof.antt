@@ -1,5 +1,5 @@
 -- `listing::given::put_given`: the row of its nine numbers.
-use Rattle.listing.proofs.Given.{given-put}
+use Rattle.listing.proofs.GivenLines.{given-put}
 use borrow.Author.Needs.{needs}
 use Rattle.listing.proofs.given.put_given.Statement.{statement}
 use Rattle.listing.proofs.given.put_given.Tie as tie

@@ -1,5 +1,5 @@
 -- `listing::given::store_given`: the line has room.
-use Rattle.listing.proofs.Given.{wrote}
+use Rattle.listing.proofs.GivenLines.{wrote}
 use borrow.Author.Needs.{needs}
 use Rattle.listing.proofs.given.store_given.Statement.{statement}
 use Rattle.listing.proofs.given.store_given.Tie as tie
