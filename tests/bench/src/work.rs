@@ -30,8 +30,7 @@ pub enum Work {
 }
 
 impl Work {
-    /// Blocks in which instructions are counted: so many as those of other
-    /// planners were, or ten whole tapes.
+    /// Blocks in which instructions are counted: of tapes, ten whole ones.
     pub fn counted(self) -> usize {
         match self {
             Work::Planner => 20_000,
