@@ -1,5 +1,5 @@
 # make test: every check of the project; its last line is 'N passed, M failed'.
-.PHONY: test run bench picture examples expected fmt clean
+.PHONY: test run bench contracts picture examples expected fmt clean
 
 test:
 	@tests/run
@@ -16,6 +16,10 @@ bench:
 	rt staticlib fullerecru
 	rt check planlist
 	tests/bench/run
+
+# make contracts: docs/CONTRACTS.txt, every public function with its contract, written again.
+contracts:
+	tools/contracts > docs/CONTRACTS.txt
 
 # make picture: docs/plan.svg, the speeds of the mould's plan, drawn again.
 PICTURED = examples/tapes/mould-row.tape

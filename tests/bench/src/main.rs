@@ -1,25 +1,25 @@
 //! Prints time and instructions of the proved planner beside those of the
-//! reference, and the speed of planlist. Fails where the two differ.
+//! reference, and what planlist takes. Fails where the two differ.
 
+mod callgrind;
 mod list;
+mod paths;
 mod work;
 
 use std::env;
-use std::fs;
-use std::path::PathBuf;
-use std::process::{Command, ExitCode, Stdio};
+use std::process::{ExitCode, Stdio};
 use std::time::Instant;
 
-use work::{Path, Ready, Side, Work};
+use paths::Path;
+use work::{Ready, Side, Work};
 
-/// Blocks that are timed, and how often; the shortest time counts.
-const TIMED: usize = 204_800;
+/// Rounds that are timed, each of ten times the blocks in which instructions
+/// are counted; the shortest time counts.
 const ROUNDS: usize = 9;
-/// Blocks in which instructions are counted.
-const COUNTED: usize = 20_480;
+const TIMES: usize = 10;
 
 const WORKS: [(&str, Work); 2] = [("planner", Work::Planner), ("tape", Work::Tape)];
-const PATHS: [(&str, Path); 2] = [("short", Path::Short), ("straight", Path::Straight)];
+const PATHS: [(&str, Path); 2] = [("mould", Path::Mould), ("straight", Path::Straight)];
 const SIDES: [(&str, Side); 2] = [("proved", Side::Proved), ("reference", Side::Reference)];
 
 /// Without arguments the whole table; `count WORK PATH SIDE` runs that once,
@@ -29,17 +29,13 @@ fn main() -> ExitCode {
     match arguments.iter().map(String::as_str).collect::<Vec<_>>()[..] {
         [] => table(),
         ["count", work, path, side] => {
-            let ready = Ready::new(
-                named(&WORKS, work),
-                named(&SIDES, side),
-                named(&PATHS, path),
-                COUNTED,
-            );
-            println!("{}", { ready }.run());
+            let (work, side) = (named(&WORKS, work), named(&SIDES, side));
+            let mut ready = Ready::new(work, side, named(&PATHS, path), work.counted());
+            println!("{}", ready.run());
             ExitCode::SUCCESS
         }
         _ => {
-            eprintln!("bench | bench count planner|tape short|straight proved|reference");
+            eprintln!("bench | bench count planner|tape mould|straight proved|reference");
             ExitCode::FAILURE
         }
     }
@@ -62,8 +58,7 @@ fn table() -> ExitCode {
     let mut agree = true;
     for (work, doing) in WORKS {
         for (path, over) in PATHS {
-            let counts =
-                SIDES.map(|(side, by)| instructions([work, path, side], doing.function(by)));
+            let counts = SIDES.map(|(side, by)| count([work, path, side], doing, by));
             line(&format!("{work}, {path}"), "instructions", counts);
             let [proved, reference] = SIDES.map(|(_, side)| time(doing, side, over));
             line("", "ns", [Some(proved.0), Some(reference.0)]);
@@ -76,7 +71,7 @@ fn table() -> ExitCode {
             }
         }
     }
-    list::report();
+    agree &= list::report();
     if agree {
         ExitCode::SUCCESS
     } else {
@@ -99,7 +94,7 @@ fn time(work: Work, side: Side, path: Path) -> (f64, u64) {
     let mut best = f64::INFINITY;
     let mut sum = 0;
     for _ in 0..ROUNDS {
-        let mut ready = Ready::new(work, side, path, TIMED);
+        let mut ready = Ready::new(work, side, path, TIMES * work.counted());
         let begin = Instant::now();
         sum = ready.run();
         best = best.min(begin.elapsed().as_nanos() as f64 / ready.blocks() as f64);
@@ -107,27 +102,10 @@ fn time(work: Work, side: Side, path: Path) -> (f64, u64) {
     (best, sum)
 }
 
-/// Instructions per block inside the function and all that it calls, by
-/// callgrind; none where there is no valgrind.
-fn instructions([work, path, side]: [&str; 3], function: &str) -> Option<f64> {
-    let own = env::current_exe().ok()?;
-    let out: PathBuf = env::temp_dir().join(format!("callgrind.{}", std::process::id()));
-    let status = Command::new("valgrind")
-        .args(["--tool=callgrind", "--quiet"])
-        .arg(format!("--toggle-collect=*{function}*"))
-        .arg(format!("--callgrind-out-file={}", out.display()))
-        .arg(own)
-        .args(["count", work, path, side])
-        .stdout(Stdio::null())
-        .stderr(Stdio::null())
-        .status();
-    let text = fs::read_to_string(&out).ok();
-    let _ = fs::remove_file(&out);
-    if !status.ok()?.success() {
-        return None;
-    }
-    let total = text?
-        .lines()
-        .find_map(|l| l.strip_prefix("totals: ")?.trim().parse::<f64>().ok())?;
-    Some(total / COUNTED as f64)
+/// Instructions per block of the names' work by a side.
+fn count([work, path, side]: [&str; 3], doing: Work, by: Side) -> Option<f64> {
+    let own = env::current_exe().expect("a program");
+    let words = ["count", work, path, side];
+    let total = callgrind::instructions(&own, &words, Stdio::null(), Some(doing.function(by)))?;
+    Some(total as f64 / doing.counted() as f64)
 }

@@ -4,12 +4,14 @@ use std::hint::black_box;
 
 use compare::library::*;
 use compare::words::limit_words;
-use reference::generate::{machine_m, short_steps, straight_steps};
+use reference::generate::machine_m;
 use reference::incremental::Planner;
 use reference::line::{LookAhead, PLACES};
 use reference::machine::Block;
 use reference::quick;
 use reference::tape::{Tape, MOST_BLOCKS};
+
+use crate::paths::Path;
 
 /// Whose code runs.
 #[derive(Clone, Copy, Debug)]
@@ -18,25 +20,7 @@ pub enum Side {
     Reference,
 }
 
-/// What it runs over, on machine M.
-#[derive(Clone, Copy, Debug)]
-pub enum Path {
-    /// Random steps of 1 to 50 µm on each axis, feed 50,000 µm/s.
-    Short,
-    /// Steps of 1 to 5 µm straight on, feed 500,000 µm/s.
-    Straight,
-}
-
-impl Path {
-    fn blocks(self, count: usize) -> Vec<Block> {
-        match self {
-            Path::Short => short_steps(1, count),
-            Path::Straight => straight_steps(1, count),
-        }
-    }
-}
-
-/// What it does.
+/// What it does, on machine M.
 #[derive(Clone, Copy, Debug)]
 pub enum Work {
     /// One take and one add for each block, with 64 held.
@@ -46,6 +30,14 @@ pub enum Work {
 }
 
 impl Work {
+    /// Blocks in which instructions are counted: of tapes, ten whole ones.
+    pub fn counted(self) -> usize {
+        match self {
+            Work::Planner => 20_000,
+            Work::Tape => 10 * MOST_BLOCKS,
+        }
+    }
+
     /// Name of the function that does it.
     pub fn function(self, side: Side) -> &'static str {
         match (self, side) {

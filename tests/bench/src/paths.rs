@@ -1,0 +1,219 @@
+//! The two paths that planners are measured on. Whole numbers only, so that
+//! every machine and every planner's harness makes the same blocks.
+
+use std::iter;
+
+use reference::machine::Block;
+
+/// What is planned, on machine M.
+#[derive(Clone, Copy, Debug)]
+pub enum Path {
+    /// Raster rows over a rolling surface, feed 50,000 µm/s. Neighbours turn a
+    /// little at a time, so an add's walk back goes far.
+    Mould,
+    /// X moves of 1 to 5 µm, feed 500,000 µm/s. Every add moves the limits of
+    /// all blocks held.
+    Straight,
+}
+
+impl Path {
+    /// The first `count` blocks, each marked with its place from 0.
+    pub fn blocks(self, count: usize) -> Vec<Block> {
+        let mut draws = Draws::begin();
+        match self {
+            Path::Mould => marked(Raster::begin(draws), 50_000, count),
+            Path::Straight => {
+                let moves = iter::repeat_with(|| [1 + draws.below(5), 0, 0]);
+                marked(moves, 500_000, count)
+            }
+        }
+    }
+}
+
+/// The first `count` moves, µm, as blocks of a feed, µm/s, without a curve.
+fn marked(moves: impl Iterator<Item = [i64; 3]>, feed: u64, count: usize) -> Vec<Block> {
+    let block = |(mark, moves)| Block {
+        moves,
+        feed,
+        radius: 0,
+        mark,
+    };
+    (0..).zip(moves).take(count).map(block).collect()
+}
+
+/// Numbers drawn one after the other: a linear congruential generator of 64
+/// bits.
+struct Draws {
+    state: u64,
+}
+
+impl Draws {
+    fn begin() -> Draws {
+        Draws { state: 20_030_619 }
+    }
+
+    /// Number from 0 to `count` − 1, of the state's upper 31 bits.
+    fn below(&mut self, count: u64) -> i64 {
+        let product = self.state.wrapping_mul(6_364_136_223_846_793_005);
+        self.state = product.wrapping_add(1_442_695_040_888_963_407);
+        ((self.state >> 33) % count) as i64
+    }
+}
+
+/// Length of the mould's rows, along X, and the way from one to the next, µm.
+const ROW: i64 = 60_000;
+const ROW_STEP: i64 = 25;
+
+/// The moves of a raster over the mould, µm: a row up in X, a step in Y, a row
+/// down, and so on.
+struct Raster {
+    /// Where it stands, µm.
+    x: i64,
+    y: i64,
+    /// 1 up in X, −1 down.
+    direction: i64,
+    draws: Draws,
+}
+
+impl Raster {
+    fn begin(draws: Draws) -> Raster {
+        Raster {
+            x: 0,
+            y: 0,
+            direction: 1,
+            draws,
+        }
+    }
+
+    fn point(&self) -> [i64; 3] {
+        [self.x, self.y, surface(self.x, self.y)]
+    }
+
+    fn at_row_end(&self) -> bool {
+        match self.direction {
+            1 => self.x >= ROW,
+            _ => self.x <= 0,
+        }
+    }
+
+    /// Goes on by 1 to 36 µm along the row, or to the next one.
+    fn step(&mut self) {
+        if self.at_row_end() {
+            self.y += ROW_STEP;
+            self.direction = -self.direction;
+        } else {
+            let step = 1 + self.draws.below(36);
+            self.x = (self.x + self.direction * step).clamp(0, ROW);
+        }
+    }
+}
+
+impl Iterator for Raster {
+    type Item = [i64; 3];
+
+    fn next(&mut self) -> Option<[i64; 3]> {
+        let from = self.point();
+        self.step();
+        let to = self.point();
+        Some([0, 1, 2].map(|axis| to[axis] - from[axis]))
+    }
+}
+
+/// Height of the mould, µm.
+fn surface(x: i64, y: i64) -> i64 {
+    wave(x, 8_000, 500) + wave(x + 3 * y, 2_600, 120) + wave(y, 14_000, 500)
+}
+
+/// Height of a wave, µm: in each period a parabola up to the peak, then one
+/// as far down. Rounded towards 0.
+fn wave(at: i64, period: i64, peak: i64) -> i64 {
+    let half = period / 2;
+    let within = at.rem_euclid(period);
+    let along = within % half;
+    let height = 4 * peak * along * (half - along) / (half * half);
+    if within < half {
+        height
+    } else {
+        -height
+    }
+}
+
+/// The numbers of the waves are worked out by hand, the others by a program of
+/// its own, written from the words of docs/BENCH.md.
+#[cfg(test)]
+mod tests {
+    use super::*;
+
+    /// Blocks of a path that sums are taken over.
+    const SUMMED: usize = 20_000;
+
+    /// Sum over the blocks of the place from 1 times the move, µm, on each axis:
+    /// no two blocks can change places unseen.
+    fn weighed(path: Path) -> [i64; 3] {
+        let moves = path.blocks(SUMMED).into_iter().map(|block| block.moves);
+        (1..).zip(moves).fold([0; 3], |sum, (place, moves)| {
+            [0, 1, 2].map(|axis| sum[axis] + place * moves[axis])
+        })
+    }
+
+    /// Some moves of a path, µm.
+    fn moves(path: Path, places: std::ops::Range<usize>) -> Vec<[i64; 3]> {
+        let blocks = path.blocks(places.end);
+        blocks[places].iter().map(|block| block.moves).collect()
+    }
+
+    #[test]
+    fn waves_round_towards_0_and_go_on_before_0() {
+        let places = [0, 7, 1_000, 2_000, 4_000, 4_007, 6_000, 8_000, -1_000];
+        let heights = [0, 3, 375, 500, 0, -3, -500, 0, -375];
+        assert_eq!(places.map(|at| wave(at, 8_000, 500)), heights);
+    }
+
+    #[test]
+    fn the_surface_is_three_waves() {
+        let points = [(0, 0), (1_000, 25), (30_001, 1_075), (12_345, 7_777)];
+        let heights = [0, 450, -358, -472];
+        assert_eq!(points.map(|(x, y)| surface(x, y)), heights);
+    }
+
+    #[test]
+    fn draws_begin_as_said() {
+        let mut draws = Draws::begin();
+        let drawn = [(); 5].map(|_| draws.below(1 << 31));
+        let words = [
+            2_080_688_908,
+            828_047_019,
+            1_618_248_262,
+            413_795_228,
+            27_210_445,
+        ];
+        assert_eq!(drawn, words);
+    }
+
+    #[test]
+    fn the_mould_is_rows() {
+        let begin = [[5, 0, 3], [4, 0, 4], [23, 0, 19]];
+        let far_end = [[4, 0, 0], [0, 25, 25], [-27, 0, 7]];
+        let near_end = [[-3, 0, -2], [0, 25, 29], [22, 0, 17]];
+        assert_eq!(moves(Path::Mould, 0..3), begin);
+        assert_eq!(moves(Path::Mould, 3_238..3_241), far_end);
+        assert_eq!(moves(Path::Mould, 6_456..6_459), near_end);
+        assert_eq!(weighed(Path::Mould), [-377_342_293, 1_696_575, 11_726_142]);
+    }
+
+    #[test]
+    fn straight_is_along_x() {
+        let begin = [[4, 0, 0], [5, 0, 0], [3, 0, 0]];
+        assert_eq!(moves(Path::Straight, 0..3), begin);
+        assert_eq!(weighed(Path::Straight), [600_976_917, 0, 0]);
+    }
+
+    #[test]
+    fn blocks_have_feed_and_place_and_no_curve() {
+        for (path, feed) in [(Path::Mould, 50_000), (Path::Straight, 500_000)] {
+            for (place, block) in (0..).zip(path.blocks(100)) {
+                assert_eq!((block.feed, block.radius, block.mark), (feed, 0, place));
+            }
+        }
+    }
+}
