@@ -41,7 +41,7 @@ extern "C" {
 
 enum {
     /* Numbers of 64 bits in a planner's memory. */
-    FULLERECRU_NUMBERS = 780,
+    FULLERECRU_NUMBERS = 781,
     /* Most blocks that a planner holds. */
     FULLERECRU_PLACES = 64,
     /* Numbers of a machine's limits. */
@@ -95,7 +95,7 @@ enum fullerecru_refusal {
     FULLERECRU_REFUSED_LIST = 11
 };
 
-/* The planner: 64 places in memory of the caller, who keeps its 780 numbers from call to call.
+/* The planner: 64 places in memory of the caller, who keeps its 781 numbers from call to call.
  * These functions alone write them. */
 
 /* Makes a fresh planner: no block held, committed speed 0. The memory need not be initialised.

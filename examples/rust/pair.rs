@@ -3,7 +3,7 @@
 //!
 //!     rustc --edition 2021 -L target/staticlib -l static=fullerecru examples/rust/pair.rs -o target/pair
 
-const NUMBERS: usize = 780;
+const NUMBERS: usize = 781;
 
 extern "C" {
     fn fullerecru_fresh(memory: *mut u64, limits: *const u64) -> u64;

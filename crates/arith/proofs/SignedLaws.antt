@@ -67,6 +67,10 @@ natAbs-sum (pos a) (negsuc b) = natAbs-difference a (suc b)
 natAbs-sum (negsuc a) (pos b) = omega (arith, natAbs-difference b (suc a))
 natAbs-sum (negsuc a) (negsuc b) = omega arith
 
+-- the sign that the machine sees is the number's
+pub sign-back : {z : ℤ} {b : Bool} → SFits w64 z → ltZ (readBack z) (pos 0) ≡ b → ltZ z (pos 0) ≡ b
+sign-back f e = rw (read-back f) at e
+
 -- a number below 0, and one that is not
 pub negative : (x : ℤ) → ltZ x (pos 0) ≡ true → (n : ℕ) × (x ≡ negsuc n)
 negative (pos n) e = absurd (omega (arith, ltb-true n 0 e))
@@ -120,12 +124,18 @@ gap-positive p (suc n) = go (ltb p (suc n)) refl
     go true e = omega (arith, ltb-true p (suc n) e)
     go false e = refl
 
--- a product and a sum as the machine computes them, of numbers read back
+-- a sum or a product f of two numbers, as the machine computes it of numbers read back
+pub both-back : (f : ℤ → ℤ → ℤ) {x y : ℤ} → SFits w64 x → SFits w64 y → f (readBack x) (readBack y) ≡ f x y
+both-back f h g = λ i. f (read-back h i) (read-back g i)
+
+pub both-fit : (f : ℤ → ℤ → ℤ) {x y : ℤ} → SFits w64 x → SFits w64 y → natAbs (f x y) < 2 ^ 63 → SFits w64 (f (readBack x) (readBack y))
+both-fit f h g l = fits-small _ (rw (both-back f h g) l)
+
 pub times-back : (r x y : ℤ) → natAbs x < 2 ^ 63 → natAbs y < 2 ^ 63 → r ≡ readBack x *ℤ readBack y → r ≡ x *ℤ y
-times-back r x y h g e = e ∙ (λ i. small-back x h i *ℤ small-back y g i)
+times-back r x y h g e = e ∙ both-back _*ℤ_ (fits-small x h) (fits-small y g)
 
 pub plus-back : (r x y : ℤ) → natAbs x < 2 ^ 63 → natAbs y < 2 ^ 63 → r ≡ readBack x +ℤ readBack y → r ≡ x +ℤ y
-plus-back r x y h g e = e ∙ (λ i. small-back x h i +ℤ small-back y g i)
+plus-back r x y h g e = e ∙ both-back _+ℤ_ (fits-small x h) (fits-small y g)
 
 -- the gap is at most the sum of the magnitudes
 pub gap-below : (p : ℕ) (s : ℤ) → gapOf p s ≤ p + natAbs s

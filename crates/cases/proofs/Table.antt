@@ -9,7 +9,7 @@ use lib.Dec.{eqb}
 use Rattle.arith.specs.Root.{rootOf, rootByDigits, nextRoot}
 use Rattle.arith.specs.Quotient.{cappedQuotient}
 use Rattle.profile.specs.Passes.{brake, startLimit, forward, planOf}
-use Rattle.machine.specs.Numbers.{lengthFrom, axisLimit, eachAxis, speedOf, torquePercent, axisAccel, accelOf, reachFrom, chordFactor, chordCap, blockCapFrom, numbersOf, turnFrom, cornerFrom, cornerCap, junctionCap, peakOf, upOf, downOf, rampOf}
+use Rattle.machine.specs.Numbers.{lengthFrom, axisLimit, eachAxis, speedOf, torqueOf, torquePercent, axisAccel, accelOf, reachFrom, chordFactor, chordCap, blockCapFrom, numbersOf, turnFrom, cornerFrom, cornerCap, junctionCap, peakOf, upOf, downOf, rampOf}
 use Rattle.machine.specs.Checks.{limitsWithin, limitsRefusal, greatestMove, blockRefusal}
 use Rattle.machine.specs.Line.{spansAfter, spansOf}
 use Rattle.line.specs.Blocks.{lineAnswer, lineAfter, lineAnswers}
@@ -45,5 +45,5 @@ right-holds (c ∷ rest) e = let h = both (same (c .computed) (c .expected)) (ri
 
 -- document 01's starred proof cases
 pub every-case-holds : Holds table
-unfolding table right same rootOf rootByDigits nextRoot cappedQuotient brake startLimit forward planOf lengthFrom axisLimit eachAxis speedOf torquePercent axisAccel accelOf reachFrom chordFactor chordCap blockCapFrom numbersOf turnFrom cornerFrom cornerCap junctionCap peakOf upOf downOf rampOf spansAfter spansOf limitsWithin limitsRefusal greatestMove blockRefusal lineAnswer lineAfter lineAnswers
+unfolding table right same rootOf rootByDigits nextRoot cappedQuotient brake startLimit forward planOf lengthFrom axisLimit eachAxis speedOf torqueOf torquePercent axisAccel accelOf reachFrom chordFactor chordCap blockCapFrom numbersOf turnFrom cornerFrom cornerCap junctionCap peakOf upOf downOf rampOf spansAfter spansOf limitsWithin limitsRefusal greatestMove blockRefusal lineAnswer lineAfter lineAnswers
 every-case-holds = right-holds table refl

@@ -13,7 +13,7 @@ use Rattle.machine.specs.declared.Block.{Block}
 use Rattle.machine.specs.declared.Ramp.{Ramp}
 use Rattle.line.specs.Answers.{answerNumber}
 use Rattle.line.specs.Blocks.{Call, add, take, freshLine, lineAnswers}
-use Rattle.cases.specs.Shop.{machineM, curved, block}
+use Rattle.cases.specs.Shop.{limitsM, machineM, curved, block}
 
 -- a case: the numbers that are computed, and those of the paper
 pub record Case : Type 0 where
@@ -69,13 +69,13 @@ table =
     -- (3,4,0): a 250,000, b 2,500,000
     ∷ (accelOf machineM (block (pos 3) (pos 4) (pos 0)) ∷ reachOf machineM (block (pos 3) (pos 4) (pos 0)) ∷ [] gives 250_000 ∷ 2_500_000 ∷ [])
     -- (1000,0,0) then (0,1000,0): corner cap 2,000,000
-    ∷ (capNumbers (cornerCap machineM east north) gives 2_000_000 ∷ [])
+    ∷ (capNumbers (cornerCap limitsM east north) gives 2_000_000 ∷ [])
     -- (1000,0,0) then (-1000,0,0): corner cap 1,000,000
-    ∷ (capNumbers (cornerCap machineM east west) gives 1_000_000 ∷ [])
+    ∷ (capNumbers (cornerCap limitsM east west) gives 1_000_000 ∷ [])
     -- (1000,0,0) twice, straight on: none
-    ∷ (capNumbers (cornerCap machineM east east) gives [])
+    ∷ (capNumbers (cornerCap limitsM east east) gives [])
     -- Radius 1,000 gives a chord cap of 2,000,000,000; at feed 20,000 the block cap is still 400,000,000
-    ∷ (chordCap machineM 1_000 ∷ blockCap machineM (curved 1_000 (pos 1_000) (pos 0) (pos 0)) ∷ [] gives 2_000_000_000 ∷ 400_000_000 ∷ [])
+    ∷ (chordCap limitsM 1_000 ∷ blockCap limitsM (curved 1_000 (pos 1_000) (pos 0) (pos 0)) ∷ [] gives 2_000_000_000 ∷ 400_000_000 ∷ [])
     -- One block (1000,0,0): plan 0, 0; peak 200,000,000; up 500, cruise 0, down 500
     ∷ (plan (east ∷ []) gives 0 ∷ 0 ∷ [])
     ∷ (firstRamp east [] gives 200_000_000 ∷ 500 ∷ 0 ∷ 500 ∷ [])

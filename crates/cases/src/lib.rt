@@ -1,13 +1,13 @@
 // The worked examples of document 01. Its table stands in specs/ and is proved in proofs/; the code
-// has the machine that they run on.
+// has the limits of the machine that they run on.
 ghost use mathlib.Core.Path.{_≡_};
-ghost use Rattle.cases.specs.Shop.{machineM};
+ghost use Rattle.cases.specs.Shop.{limitsM};
 use machine::Axes;
 use machine::Limits;
 
-// Machine M of document 01, "Proof cases".
-pub fn machine_m() -> Limits
-    ensures { λ r. ⌜ r ≡ machineM ⌝ }
+// The limits of machine M of document 01, "Proof cases".
+pub fn limits_m() -> Limits
+    ensures { λ r. ⌜ r ≡ limitsM ⌝ }
 {
     Limits {
         accel: Axes {

@@ -1,2 +1,2 @@
 -- What the client's proofs share.
-pub mod Lines
+pub mod Worked

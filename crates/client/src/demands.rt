@@ -4,51 +4,28 @@ ghost use mathlib.Core.List.{_∷_, []};
 ghost use mathlib.Core.Path.{_≡_};
 ghost use Prim.Native.Nat.{_+_};
 ghost use lib.ListN.{length};
-ghost use Rattle.display.specs.Display.{checkedMeans};
 ghost use Rattle.tape.specs.Answers.{tapeRefusal};
+ghost use Rattle.machine.specs.Labels.{plainBlock};
 ghost use Rattle.machine.specs.Lists.{limitsFrom};
-ghost use Rattle.line.specs.Answers.{addMeans, showMeans, takeMeans};
-ghost use Rattle.line.specs.Demand.{Demand3};
+ghost use Rattle.machine.specs.Numbers.{builtIn};
 ghost use Rattle.tape.specs.Tape.{recordsIn};
 ghost use Rattle.tapeplan.specs.Planned.{TapeDemand3};
 ghost use Rattle.fullerecru.specs.Planners as seen;
 ghost use Rattle.fullerecru.specs.Planners.{ExportedDemand3};
-ghost use Rattle.client.specs.Work.{pairCalls};
-use display::Checked;
+ghost use Rattle.client.specs.Work.{PairDemand3, pairCalls};
+use crate::Answered;
+use crate::Returned;
 use fullerecru::planners::fullerecru_add;
 use fullerecru::planners::fullerecru_fresh;
 use fullerecru::planners::fullerecru_shown;
 use fullerecru::planners::fullerecru_take;
 use fullerecru::planners::fullerecru_told;
-use line::AddAnswer;
-use line::ShowAnswer;
-use line::TakeAnswer;
 use machine::Block;
 use machine::Limits;
 use planner::NUMBERS;
 use planner::Planner;
 use tapeplan::TapePlanned;
 use tapeplan::whole::plan_tape;
-
-// What the calls answered.
-pub struct Answered {
-    pub made: Checked,
-    pub first: AddAnswer,
-    pub second: AddAnswer,
-    pub third: TakeAnswer,
-    pub told: u64,
-    pub shown: ShowAnswer,
-}
-
-// The same as numbers on the display, from the functions for C.
-pub struct Returned {
-    pub made: u64,
-    pub first: u64,
-    pub second: u64,
-    pub third: u64,
-    pub told: u64,
-    pub shown: u64,
-}
 
 // In lent memory, whatever it holds.
 pub fn in_memory(
@@ -58,7 +35,7 @@ pub fn in_memory(
     b: Block,
     list: &mut [u64],
 ) -> Answered
-    ensures { λ r. ⌜ (checkedMeans (r .made) ≡ 0 → Demand3 l (pairCalls a b) (addMeans (r .first) ∷ addMeans (r .second) ∷ takeMeans (r .third) ∷ []) (r .told) (now (list .entry)) (showMeans (r .shown)) (now (list .exit))) ⌝ }
+    ensures { λ r. ⌜ PairDemand3 l a b r (now (list .entry)) (now (list .exit)) ⌝ }
 {
     let made = planner::fresh(memory, l);
     let first = planner::add(memory, a);
@@ -78,7 +55,7 @@ pub fn in_memory(
 
 // By value.
 pub fn by_value(l: Limits, a: Block, b: Block, list: &mut [u64]) -> Answered
-    ensures { λ r. ⌜ (checkedMeans (r .made) ≡ 0 → Demand3 l (pairCalls a b) (addMeans (r .first) ∷ addMeans (r .second) ∷ takeMeans (r .third) ∷ []) (r .told) (now (list .entry)) (showMeans (r .shown)) (now (list .exit))) ⌝ }
+    ensures { λ r. ⌜ PairDemand3 l a b r (now (list .entry)) (now (list .exit)) ⌝ }
 {
     let fresh = Planner::fresh(l);
     let planner = fresh.planner;
@@ -114,7 +91,7 @@ pub fn for_c(
     numbers: &mut [u64; 11],
     list: &mut [u64],
 ) -> Returned
-    ensures { λ r. ⌜ (r .made ≡ 0 → ExportedDemand3 (limitsFrom (now (limits .entry))) (pairCalls (record { x = x; y = x; z = x; feed = feed; radius = 0; mark = 0 }) (record { x = x; y = x; z = x; feed = feed; radius = 0; mark = 1 })) (seen.added (r .first) ∷ seen.added (r .second) ∷ seen.taken (r .third) (now (moves .entry)) (now (moves .exit)) (now (numbers .entry)) (now (numbers .exit)) ∷ []) (r .told) (now (list .entry)) (r .shown) (now (list .exit))) ⌝ }
+    ensures { λ r. ⌜ (r .made ≡ 0 → ExportedDemand3 (builtIn (limitsFrom (now (limits .entry)))) (pairCalls (plainBlock x x x feed 0 0) (plainBlock x x x feed 0 1)) (seen.added (r .first) ∷ seen.added (r .second) ∷ seen.taken (r .third) (now (moves .entry)) (now (moves .exit)) (now (numbers .entry)) (now (numbers .exit)) ∷ []) (r .told) (now (list .entry)) (r .shown) (now (list .exit))) ⌝ }
 {
     let made = fullerecru_fresh(memory, limits);
     let first = fullerecru_add(memory, x, x, x, feed, 0, 0);

@@ -2,33 +2,59 @@
 // demand 3 of calls that it makes.
 ghost use mathlib.Core.Bool.{true};
 ghost use mathlib.Core.Path.{_≡_};
-ghost use Rattle.client.specs.Work.{Gives, blockOf};
-use cases::machine_m;
+ghost use Rattle.client.specs.Work.{Gives, Ramps, blockOf};
+use cases::limits_m;
+use display::Checked;
 use line::AddAnswer;
 use line::Given;
 use line::ShowAnswer;
 use line::TakeAnswer;
 use machine::Block;
+use machine::Ramp;
+use machine::blocks::plain_block;
 use planner::NUMBERS;
 use planner::Planner;
 
 mod demands;
 
+// What a fresh planner, two adds, a take, told and shown answered.
+pub struct Answered {
+    pub made: Checked,
+    pub first: AddAnswer,
+    pub second: AddAnswer,
+    pub third: TakeAnswer,
+    pub told: u64,
+    pub shown: ShowAnswer,
+}
+
+// The same as numbers on the display, from the functions for C.
+pub struct Returned {
+    pub made: u64,
+    pub first: u64,
+    pub second: u64,
+    pub third: u64,
+    pub told: u64,
+    pub shown: u64,
+}
+
 // A block of feed 20,000 µm/s along X and Y, µm.
 fn block(x: i64, y: i64, mark: u64) -> Block
     ensures { λ r. ⌜ r ≡ blockOf x y mark ⌝ }
 {
-    Block {
-        x: x,
-        y: y,
-        z: 0,
-        feed: 20_000,
-        radius: 0,
-        mark: mark,
-    }
+    plain_block(x, y, 0, 20_000, 0, mark)
 }
 
-// A block given out with a mark, entry and exit, (µm/s)², and the ramp of the right-angle pair, µm.
+// The ramp of a block of the right-angle pair, with the lengths of speeding up and of braking, µm.
+fn expect_ramp(ramp: Ramp, up: u64, down: u64)
+    requires { ⌜ Ramps ramp up down ⌝ }
+{
+    check::expect(ramp.peak == 201_000_000);
+    check::expect(ramp.up == up);
+    check::expect(ramp.cruise == 1);
+    check::expect(ramp.down == down);
+}
+
+// A block of the pair given out with a mark, entry and exit, (µm/s)², and its ramp.
 fn expect_given(g: Given, mark: u64, entry: u64, exit: u64, up: u64, down: u64)
     requires { ⌜ Gives g mark entry exit up down ⌝ }
 {
@@ -39,15 +65,12 @@ fn expect_given(g: Given, mark: u64, entry: u64, exit: u64, up: u64, down: u64)
     check::expect(g.entry == entry);
     check::expect(g.exit == exit);
     let ramp = g.ramp;
-    check::expect(ramp.peak == 201_000_000);
-    check::expect(ramp.up == up);
-    check::expect(ramp.cruise == 1);
-    check::expect(ramp.down == down);
+    expect_ramp(ramp, up, down);
 }
 
 // Two blocks straight on: the plan is 0, 400,000,000, 0.
 fn two_blocks() {
-    let made = Planner::fresh(machine_m());
+    let made = Planner::fresh(limits_m());
     let fresh = made.planner;
     let one = fresh.add(block(1_000, 0, 0));
     let held = one.planner;
@@ -62,7 +85,7 @@ fn two_blocks() {
 
 // The right-angle pair, marks 7 and 8: each block is given out with its speeds and its ramp.
 fn right_angle() {
-    let made = Planner::fresh(machine_m());
+    let made = Planner::fresh(limits_m());
     let fresh = made.planner;
     let one = fresh.add(block(1_000, 0, 7));
     let held = one.planner;
@@ -85,7 +108,7 @@ fn right_angle() {
 
 // A block that does not move is refused, and the number told stays as it was.
 fn refused_still() {
-    let made = Planner::fresh(machine_m());
+    let made = Planner::fresh(limits_m());
     let fresh = made.planner;
     let one = fresh.add(block(1_000, 0, 0));
     let held = one.planner;
@@ -112,7 +135,7 @@ fn was_refused(memory: &mut [u64; NUMBERS], b: Block) -> bool
 
 // A list as long as the blocks is one too short: 11, and it holds what it held.
 fn short_list() {
-    let made = Planner::fresh(machine_m());
+    let made = Planner::fresh(limits_m());
     let fresh = made.planner;
     let one = fresh.add(block(1_000, 0, 0));
     let held = one.planner;
@@ -129,13 +152,13 @@ fn demanded(memory: &mut [u64; NUMBERS]) {
     let mut list = [7u64; 2];
     demands::in_memory(
         memory,
-        machine_m(),
+        limits_m(),
         block(1_000, 0, 7),
         block(0, 1_000, 8),
         &mut list,
     );
     demands::by_value(
-        machine_m(),
+        limits_m(),
         block(1_000, 0, 7),
         block(0, 1_000, 8),
         &mut list,

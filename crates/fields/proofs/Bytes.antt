@@ -196,14 +196,6 @@ pub store-none : (s : List ℕ) (from v : ℕ) → withBytes s from 0 v ≡ s
 unfolding withBytes bytesOf split
 store-none s from v = rw (append-nil (take from s), add-zero from, take-append-drop from s)
 
--- Writing what is read there changes nothing.
-pub store-read : {s : List ℕ} (from n : ℕ) → Bytes s → from + n ≤ length s → withBytes s from n (numberOf (take n (drop from s))) ≡ s
-unfolding withBytes
-store-read {s} from n h l =
-    let part : bytesOf n (numberOf (take n (drop from s))) ≡ take n (drop from s) =
-    rw (length-part s from n l) at (bytes-number (bytes-take n (bytes-drop from h))) in
-    rw (part, ← take-add from n s, take-append-drop (from + n) s)
-
 -- Writing bytes keeps the length, bytes stay bytes, and the number is the one written between those before and behind it.
 pub length-with : (s : List ℕ) (from n v : ℕ) → from + n ≤ length s → length (withBytes s from n v) ≡ length s
 unfolding withBytes

@@ -10,23 +10,14 @@ use lib.Pow.{pow-pos}
 use Rattle.fields.specs.Layouts.{total, joined, split, InWidths}
 use Rattle.fields.specs.Bytes.{Bytes, numberOf, withBytes}
 use Rattle.fields.specs.Fields.{partOf, withPart, below, fieldOf, withField}
-use Rattle.fields.proofs.Parts.{part-part, part-cut, part-with, with-part, part-above, part-below, with-def, with-lt, with-with}
-use Rattle.fields.proofs.Layouts.{split-at, total-at, joined-lt, joined-split, split-joined}
-use Rattle.fields.proofs.Bytes.{number-lt, number-bytes, bytes-number, bytes-are, length-bytes, number-part, number-before, number-behind, number-with, length-part, length-with, bytes-with, part-lt, number-stored, store-read}
+use Rattle.fields.proofs.Parts.{part-part, part-with, with-part, part-above, part-below, with-def, with-lt, with-with}
+use Rattle.fields.proofs.Layouts.{split-at, total-at, joined-lt, split-joined}
+use Rattle.fields.proofs.Bytes.{number-lt, number-bytes, bytes-number, length-bytes, number-part, number-before, number-behind, number-with, length-part, length-with, bytes-with, number-stored}
 
 -- A field fits its width.
 pub field-lt : (s : List ℕ) (at width : ℕ) → fieldOf s at width < 2 ^ width
 unfolding fieldOf
 field-lt s at width = mod-lt (numberOf s / 2 ^ below s (at + width)) (pow-pos width)
-
--- A field of a + b bits is its a high bits and its b low bits, side by side.
-pub field-cut : (s : List ℕ) (at a b : ℕ) → at + (a + b) ≤ 8 * length s
-    → fieldOf s at (a + b) ≡ fieldOf s at a * 2 ^ b + fieldOf s (at + a) b
-unfolding fieldOf
-field-cut s at a b h =
-    let e : below s (at + a) ≡ below s (at + (a + b)) + b = omega arith in
-    let f : below s (at + a + b) ≡ below s (at + (a + b)) = omega arith in
-    rw (part-cut (numberOf s) (below s (at + (a + b))) a b, e, f)
 
 -- The values of a layout that fills the bytes are the fields, each at the sum of the widths before it.
 pub split-field : (s ws : List ℕ) (i : ℕ) → total ws ≡ 8 * length s
@@ -36,14 +27,10 @@ split-field s ws i e =
     let b : total (drop (suc i) ws) ≡ below s (total (take i ws) + getD ws i 0) = omega (arith, total-at ws i) in
     rw (← b) (split-at ws (numberOf s) i)
 
--- Writing keeps the length, and what is written are bytes.
+-- Writing keeps the length.
 pub length-written : (s : List ℕ) (at width v : ℕ) → length (withField s at width v) ≡ length s
 unfolding withField
 length-written s at width v = length-bytes (length s) (withPart (numberOf s) (below s (at + width)) width v)
-
-pub bytes-written : (s : List ℕ) (at width v : ℕ) → Bytes (withField s at width v)
-unfolding withField
-bytes-written s at width v = bytes-are (length s) (withPart (numberOf s) (below s (at + width)) width v)
 
 module _ {s : List ℕ} (h : Bytes s) where
   -- A field of the n bytes from byte `from` on, `skip` bits after their first, is a field of the whole: by the number of those
@@ -125,15 +112,10 @@ module _ {s : List ℕ} (h : Bytes s) where
       write-bytes from n (withPart (numberOf (take n (drop from s))) low width v) l
       ∙ rw (e, f, number-part from n h l, with-with (numberOf s) high low width v {W = 8 * n} (omega arith))
 
--- A layout that fills the n bytes from byte `from` on: the values written are read, and writing the values read changes nothing.
+-- The values written by a layout that fills the n bytes from byte `from` on are read.
 module _ (from n : ℕ) (ws : List ℕ) (e : total ws ≡ 8 * n) where
   pub split-stored : (s vs : List ℕ) → from ≤ length s → InWidths ws vs
       → split ws (numberOf (take n (drop from (withBytes s from n (joined ws vs))))) ≡ vs
   split-stored s vs l h =
       let fits : joined ws vs < 2 ^ (8 * n) = rw e at (joined-lt ws vs h) in
       rw (number-stored s from n (joined ws vs) l, mod-eq-of-lt fits) (split-joined ws vs h)
-
-  pub stored-split : {s : List ℕ} → Bytes s → from + n ≤ length s
-      → withBytes s from n (joined ws (split ws (numberOf (take n (drop from s))))) ≡ s
-  stored-split {s} h l =
-      rw (joined-split ws (numberOf (take n (drop from s))), e, mod-eq-of-lt (part-lt from n h l)) (store-read from n h l)

@@ -1,12 +1,12 @@
 -- Fields side by side: `joined` and `split` are inverse, at any layout. From the laws of powers.
 use mathlib.Core.Path.{_≡_, refl, sym, ap}
 use Prim.Native.Nat.{ℕ, zero, suc, _+_, _*_, _/_, _%_, _^_, _≤_, _<_}
-use native.Mathlib.Nat.{mod-lt, mod-one, mod-eq-of-lt, le-refl, add-assoc, add-zero, suc-inj}
+use native.Mathlib.Nat.{mod-one, mod-eq-of-lt, le-refl, add-assoc, add-zero, suc-inj}
 use native.Mathlib.Omega.{arith}
 use mathlib.Core.List.{List, _∷_, _++_, []}
 use lib.ListN.{length, getD, take, drop}
 use lib.Pow as Pow
-use lib.Pow.{pow-pos, pow-add}
+use lib.Pow.{pow-add}
 use lib.Arith.{digits-lt}
 use Rattle.fields.specs.Layouts.{total, joined, split, InWidths}
 use Rattle.fields.specs.Fields.{partOf}
@@ -38,12 +38,6 @@ pub length-split : (ws : List ℕ) (n : ℕ) → length (split ws n) ≡ length 
 unfolding split
 length-split [] n = refl
 length-split (w ∷ ws) n = ap suc (length-split ws n)
-
--- The values that `split` gives fit their widths.
-pub split-in : (ws : List ℕ) (n : ℕ) → InWidths ws (split ws n)
-unfolding split
-split-in [] n = tt
-split-in (w ∷ ws) n = (mod-lt (n / 2 ^ total ws) (pow-pos w), split-in ws n)
 
 -- Values that fit their widths make a number of the layout's width.
 pub joined-lt : (ws vs : List ℕ) → InWidths ws vs → joined ws vs < 2 ^ total ws

@@ -6,7 +6,7 @@ use native.Mathlib.Omega.{arith}
 use lib.IntN.{ℤ}
 use lib.ListN.{length, drop, take-append-drop}
 use Rattle.machine.specs.declared.Block.{Block}
-use Rattle.machine.specs.declared.Limits.{Limits}
+use Rattle.machine.specs.declared.Machine.{Machine}
 use Rattle.line.specs.Answers.{Answer, answerBy, answerNumber}
 use Rattle.line.specs.Blocks.{Call, add, addRefusal}
 use Rattle.line.specs.Ring.{ringAnswer, showRefusal}
@@ -46,7 +46,7 @@ taken-one {numbers} {moves} p q =
 pub planned-one : {tape lent a b p q : List ℕ} {n k : ℕ} → PlanLent tape n lent a p → PlanLent tape k lent b q → (n ≡ k) × (a ≡ b) × (p ≡ q)
 planned-one x y = (x .number-is ∙ sym (y .number-is), x .list-is ∙ sym (y .list-is), x .place-is ∙ sym (y .place-is))
 
-demanded-one : {l : Limits} {calls : List Call} {told : ℕ} {a b plan p q : List ℕ} → Demanded l calls told a plan p → Demanded l calls told b plan q → (a ≡ b) × (p ≡ q)
+demanded-one : {m : Machine} {calls : List Call} {told : ℕ} {a b plan p q : List ℕ} → Demanded m calls told a plan p → Demanded m calls told b plan q → (a ≡ b) × (p ≡ q)
 demanded-one {told} {p} {q} x y =
     let d = demand-one (x .demand) (y .demand) in
     let back : drop (told + 1) p ≡ drop (told + 1) q = x .rest ∙ sym (y .rest) in

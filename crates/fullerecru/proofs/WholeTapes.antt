@@ -3,21 +3,22 @@ use mathlib.Core.List.{List, _∷_, []}
 use mathlib.Core.Path.{_≡_, refl, sym, ap, subst, _∙_}
 use Prim.Native.Nat.{ℕ, _<_}
 use native.Mathlib.Omega.{arith}
-use Rattle.display.specs.Display.{refusalNumber, Fault}
-use Rattle.display.proofs.Answers.{refusal-above, above-zero}
-use Rattle.display.specs.declared.Refusal.{Refusal}
+use Rattle.display.specs.Display.{Fault}
+use Rattle.display.proofs.Answers.{refusal-above, at-zero, above-zero}
+use Rattle.machine.specs.Numbers.{builtIn}
 use Rattle.tape.specs.Tape.{limitsAt}
 use Rattle.tapeplan.specs.Planned.{PlannedTape, plannedMeans}
 use Rattle.tapeplan.specs.declared.TapePlanned.{TapePlanned}
 use Rattle.replay.specs.Trace.{traceCalls}
-use Rattle.replay.specs.Replays.{Demanded, Replays}
+use Rattle.replay.specs.Replays.{Demanded, Replays, replayedMeans}
+use Rattle.replay.specs.declared.Replayed.{Replayed}
 use Rattle.replay.specs.declared.Replayed.the-variants.{Done, Refused}
 use Rattle.fullerecru.specs.Plans.{PlanLent, toldAfter, ReplayLent}
 
 -- A whole tape, by the number and the place of its answer.
-pub planned : {tape list list′ place′ : List ℕ} {r : TapePlanned} (n : ℕ) → PlannedTape tape list list′ r
+pub planned : {tape list list′ place′ : List ℕ} (r : TapePlanned) {n : ℕ} → PlannedTape tape list list′ r
     → n ≡ plannedMeans r .number → place′ ≡ plannedMeans r .place ∷ [] → PlanLent tape n list list′ place′
-planned n p e f =
+planned r p e f =
     let number = ap (λ (x : Fault). x .number) (p .fault) in
     record {
       number-is = e ∙ number;
@@ -26,28 +27,28 @@ planned n p e f =
       highest = λ z. p .highest (sym number ∙ sym e ∙ z);
     }
 
-module _ (trace answers plan told : List ℕ) where
-  -- A trace that was run,
-  pub trace-run : {answers′ plan′ told′ : List ℕ} {held : ℕ} → Replays trace answers plan (Done held) answers′ plan′ → told′ ≡ held ∷ []
-      → ReplayLent trace 0 answers answers′ plan plan′ told told′
-  trace-run {answers′} {plan′} p e =
-      let d = p .run refl in
-      record {
-        number-is = p .number;
-        told-is = e ∙ ap (λ (n : ℕ). n ∷ []) (d .demand .number);
-        run = λ z. subst (λ (n : ℕ). Demanded (limitsAt trace) (traceCalls trace) n answers′ plan plan′) (d .demand .number) d;
-        refused = λ h. absurd (omega arith);
-      }
+-- What a lent list of one number has after a trace: the number told, or what it had.
+abbrev pub toldBy : Replayed → List ℕ → List ℕ
+toldBy (Done told) had = told ∷ []
+toldBy (Refused why) had = had
 
-  -- or refused.
-  pub trace-refused : {answers′ plan′ : List ℕ} (why : Refusal) (n : ℕ) → Replays trace answers plan (Refused why) answers′ plan′ → n ≡ refusalNumber why
-      → ReplayLent trace n answers answers′ plan plan′ told told
-  trace-refused why n p e =
-      let above = refusal-above why in
-      let refusing : 0 < n = omega arith in
-      record {
-        number-is = e ∙ p .number;
-        told-is = sym (above-zero (toldAfter trace ∷ []) told refusing);
-        run = λ z. absurd (omega arith);
-        refused = λ h. p .refused above;
-      }
+-- A trace that was run or refused, by the number of its answer.
+pub replayed : {trace answers answers′ plan plan′ : List ℕ} (r : Replayed) {n : ℕ} (told : List ℕ) {told′ : List ℕ} → Replays trace answers plan r answers′ plan′
+    → n ≡ replayedMeans r → told′ ≡ toldBy r told → ReplayLent trace n answers answers′ plan plan′ told told′
+replayed {trace} {answers′} {plan} {plan′} (Done held) told p e f =
+    let d = p .run refl in
+    record {
+      number-is = e ∙ p .number;
+      told-is = f ∙ ap (λ (k : ℕ). k ∷ []) (d .demand .number) ∙ sym (at-zero (toldAfter trace ∷ []) told e);
+      run = λ z. subst (λ (k : ℕ). Demanded (builtIn (limitsAt trace)) (traceCalls trace) k answers′ plan plan′) (d .demand .number) d;
+      refused = λ h. absurd (omega arith);
+    }
+replayed {trace} (Refused why) {n} told p e f =
+    let above = refusal-above why in
+    let refusing : 0 < n = omega arith in
+    record {
+      number-is = e ∙ p .number;
+      told-is = f ∙ sym (above-zero (toldAfter trace ∷ []) told refusing);
+      run = λ z. absurd (omega arith);
+      refused = λ h. p .refused above;
+    }

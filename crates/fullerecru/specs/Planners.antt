@@ -4,48 +4,26 @@ use mathlib.Core.Path.{_≡_}
 use Prim.Native.Nat.{ℕ, _<_}
 use lib.IntN.{ℤ}
 use Rattle.machine.specs.declared.Block.{Block}
-use Rattle.machine.specs.declared.Limits.{Limits}
-use Rattle.line.specs.Answers.{Answer, accepted, gave, refused, answerBy, answerNumber}
+use Rattle.machine.specs.declared.Machine.{Machine}
+use Rattle.line.specs.Answers.{Answer, accepted, gave, refused, answerBy, answerNumber, givenNumbers}
 use Rattle.line.specs.Blocks.{Call, add, take}
 use Rattle.line.specs.Demand.{Demand3}
 use Rattle.line.specs.declared.Given.{Given}
 use Rattle.planner.specs.Calls.{Called}
 use Rattle.fullerecru.specs.Moves.{blockMoves}
 
--- the moves of a block given out, µm, and its other numbers
-abbrev pub movesFor : Given → List ℤ
-movesFor g = blockMoves (g .block)
+-- what a lent list has after an answer: that of the block given out, else what it had
+abbrev pub filledBy : {A : Type 0} → (Given → A) → Answer → A → A
+filledBy of accepted had = had
+filledBy of (gave g) had = of g
+filledBy of (refused n) had = had
 
-abbrev pub givenNumbers : Given → List ℕ
-givenNumbers g =
-    g .block .feed
-    ∷ g .block .radius
-    ∷ g .block .mark
-    ∷ g .length
-    ∷ g .accel
-    ∷ g .entry
-    ∷ g .exit
-    ∷ g .ramp .peak
-    ∷ g .ramp .up
-    ∷ g .ramp .cruise
-    ∷ g .ramp .down
-    ∷ []
-
--- a lent list after an answer: filled where a block was given out, else as it was
+-- the moves of a block given out, and its other numbers, in the lists that a take is lent
 abbrev pub movesAfter : Answer → List ℤ → List ℤ
-movesAfter accepted held = held
-movesAfter (gave g) held = movesFor g
-movesAfter (refused n) held = held
+movesAfter = filledBy (λ g. blockMoves (g .block))
 
 abbrev pub numbersAfter : Answer → List ℕ → List ℕ
-numbersAfter accepted held = held
-numbersAfter (gave g) held = givenNumbers g
-numbersAfter (refused n) held = held
-
--- a block given out in lent lists
-pub record Gave (g : Given) (moves : List ℤ) (numbers : List ℕ) : Type 0 where
-  pub moves-are : moves ≡ movesFor g
-  pub numbers-are : numbers ≡ givenNumbers g
+numbersAfter = filledBy givenNumbers
 
 -- A take, whose answer C sees as a number and in the lists that it lends. An add and showing the plan return no more than a number, which
 -- `answerBy` turns into the planner's answer: they promise what the planner's own calls do.
@@ -81,9 +59,9 @@ pub data ExportedAll : (memory : List ℕ) (calls : List Call) (seen : List Seen
       → TakenOut m n m′ moves moves′ numbers numbers′ → ExportedAll m′ calls seen m″
       → ExportedAll m (take ∷ calls) (taken n moves moves′ numbers numbers′ ∷ seen) m″
 
--- Demand 3 of such calls from a fresh planner: of the answers that C saw, the number told, and what showing the plan in a lent list then
--- returned and left there.
-pub record ExportedDemand3 (l : Limits) (calls : List Call) (seen : List Seen) (told : ℕ) (lent : List ℕ) (number : ℕ) (left : List ℕ) : Type 0 where
+-- Demand 3 of such calls from a fresh planner of machine m: of the answers that C saw, the number told, and what showing the plan in a lent
+-- list then returned and left there.
+pub record ExportedDemand3 (m : Machine) (calls : List Call) (seen : List Seen) (told : ℕ) (lent : List ℕ) (number : ℕ) (left : List ℕ) : Type 0 where
   pub answers : List Answer
   pub seen-are : SeenAll answers seen
-  pub demand : Demand3 l calls answers told lent (answerBy number) left
+  pub demand : Demand3 m calls answers told lent (answerBy number) left

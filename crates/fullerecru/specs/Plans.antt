@@ -4,11 +4,11 @@ use mathlib.Core.Path.{_≡_}
 use Prim.Native.Nat.{ℕ, _<_}
 use lib.ListN.{length}
 use Rattle.profile.specs.Line.{Highest}
-use Rattle.profile.specs.Passes.{planOf}
+use Rattle.machine.specs.Numbers.{builtIn}
 use Rattle.line.specs.Blocks.{freshLine, lineAfterAll}
 use Rattle.tape.specs.Tape.{limitsAt}
 use Rattle.display.specs.Display.{byNumber}
-use Rattle.tapeplan.specs.Planned.{tapeSpans, planFault}
+use Rattle.tapeplan.specs.Planned.{tapeSpans, tapePlan, planFault}
 use Rattle.replay.specs.Trace.{traceCalls}
 use Rattle.replay.specs.Replays.{replayRefusal, Demanded, Unchanged}
 
@@ -17,17 +17,17 @@ use Rattle.replay.specs.Replays.{replayRefusal, Demanded, Unchanged}
 pub record PlanLent (tape : List ℕ) (number : ℕ) (list list′ place′ : List ℕ) : Type 0 where
   pub number-is : number ≡ planFault tape (length list) .number
   pub place-is : place′ ≡ planFault tape (length list) .place ∷ []
-  pub list-is : list′ ≡ byNumber (planFault tape (length list) .number) (planOf 0 (tapeSpans tape)) list
+  pub list-is : list′ ≡ byNumber (planFault tape (length list) .number) (tapePlan tape) list
   pub highest : number ≡ 0 → Highest 0 (tapeSpans tape) list′
 
 -- the number of blocks held after a trace
 abbrev pub toldAfter : List ℕ → ℕ
-toldAfter trace = length (lineAfterAll (freshLine (limitsAt trace)) (traceCalls trace) .blocks)
+toldAfter trace = length (lineAfterAll (freshLine (builtIn (limitsAt trace))) (traceCalls trace) .blocks)
 
 -- A trace run, or refused: the number on the display; demand 3 where it was run, with the number told in its list; all
 -- three lists as they were where it was refused.
 pub record ReplayLent (trace : List ℕ) (number : ℕ) (answers answers′ plan plan′ told told′ : List ℕ) : Type 0 where
   pub number-is : number ≡ replayRefusal trace (length answers) (length plan)
   pub told-is : told′ ≡ byNumber number (toldAfter trace ∷ []) told
-  pub run : number ≡ 0 → Demanded (limitsAt trace) (traceCalls trace) (toldAfter trace) answers′ plan plan′
+  pub run : number ≡ 0 → Demanded (builtIn (limitsAt trace)) (traceCalls trace) (toldAfter trace) answers′ plan plan′
   pub refused : 0 < number → Unchanged answers plan answers′ plan′

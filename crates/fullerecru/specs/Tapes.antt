@@ -1,33 +1,18 @@
 -- What the functions for C on limits and records as bytes return and leave in the lists that they are lent.
-use mathlib.Core.List.{List, _∷_, []}
+use mathlib.Core.List.{List, []}
 use mathlib.Core.Path.{_≡_}
 use Prim.Native.Nat.{ℕ}
 use lib.IntN.{ℤ}
-use Rattle.machine.specs.declared.Block.{Block}
-use Rattle.machine.specs.declared.Limits.{Limits}
 use Rattle.machine.specs.Lists.{limitNumbers}
 use Rattle.tape.specs.Tape.{limitsAt, blockAt}
 use Rattle.display.specs.Display.{byNumber}
 use Rattle.tape.specs.Answers.{limitsReadRefusal, recordReadRefusal}
-use Rattle.fullerecru.specs.Moves.{blockMoves}
-
--- limits as nine numbers
-abbrev pub limitsList : Limits → List ℕ
-limitsList l = limitNumbers l []
-
--- the numbers of a block beside its moves
-abbrev pub blockNumbers : Block → List ℕ
-blockNumbers b = b .feed ∷ b .radius ∷ b .mark ∷ []
-
--- a block in lent lists
-pub record PutBlock (b : Block) (moves : List ℤ) (numbers : List ℕ) : Type 0 where
-  pub moves-are : moves ≡ blockMoves b
-  pub numbers-are : numbers ≡ blockNumbers b
+use Rattle.fullerecru.specs.Moves.{blockMoves, blockNumbers}
 
 -- limits read: the list is filled where nothing is refused, else as it was
 pub record LimitsLent (bytes limits : List ℕ) (number : ℕ) (limits′ : List ℕ) : Type 0 where
   pub number-is : number ≡ limitsReadRefusal bytes
-  pub limits-are : limits′ ≡ byNumber (limitsReadRefusal bytes) (limitsList (limitsAt bytes)) limits
+  pub limits-are : limits′ ≡ byNumber (limitsReadRefusal bytes) (limitNumbers (limitsAt bytes) []) limits
 
 -- a record read, in the same way
 pub record RecordLent (bytes : List ℕ) (number : ℕ) (moves moves′ : List ℤ) (numbers numbers′ : List ℕ) : Type 0 where

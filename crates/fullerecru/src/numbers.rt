@@ -1,33 +1,31 @@
-// What the functions for C share: the number of a check's answer, limits as nine numbers, moves as three.
+// What the functions for C share: the numbers on the display of the planner's answers, and a block's moves as three
+// numbers.
 ghost use mathlib.Core.Path.{_≡_};
 ghost use lib.ListN.{length};
-ghost use Rattle.machine.specs.Lists.{limitsFrom};
+ghost use Rattle.line.specs.Answers.{addMeans, answerNumber, showMeans};
 ghost use Rattle.fullerecru.specs.Moves.{blockMoves};
-use machine::Axes;
+use display::refusal_number;
+use line::AddAnswer;
+use line::ShowAnswer;
 use machine::Block;
-use machine::Limits;
 
-// The limits of nine numbers.
-pub fn limits_of(list: &[u64]) -> Limits
-    requires { ⌜ length (now list) ≡ 9 ⌝ }
-    ensures { λ r. ⌜ r ≡ limitsFrom (now (list .entry)) ⌝ }
+// The number on the display of an add's answer.
+pub fn added_number(a: AddAnswer) -> u64
+    ensures { λ r. ⌜ r ≡ answerNumber (addMeans a) ⌝ }
 {
-    let accel = Axes {
-        x: list[0],
-        y: list[1],
-        z: list[2],
-    };
-    let speed = Axes {
-        x: list[3],
-        y: list[4],
-        z: list[5],
-    };
-    Limits {
-        accel: accel,
-        speed: speed,
-        jump: list[6],
-        chord: list[7],
-        tick: list[8],
+    match a {
+        AddAnswer::Added => 0,
+        AddAnswer::Refused(why) => refusal_number(why),
+    }
+}
+
+// The number on the display of what showing the plan answers.
+pub fn shown_number(a: ShowAnswer) -> u64
+    ensures { λ r. ⌜ r ≡ answerNumber (showMeans a) ⌝ }
+{
+    match a {
+        ShowAnswer::Shown => 0,
+        ShowAnswer::Refused(why) => refusal_number(why),
     }
 }
 

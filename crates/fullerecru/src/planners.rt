@@ -1,21 +1,24 @@
-// The planner for C, on memory that the caller lends: 780 numbers of 64 bits, whose content is the
-// planner's.
+// The planner for C, on memory that the caller lends: `NUMBERS` numbers of 64 bits, whose content is
+// the planner's.
 ghost use mathlib.Core.Path.{_≡_};
 ghost use lib.ListN.{length};
-ghost use Rattle.line.specs.Answers.{addMeans, answerBy, answerNumber, showMeans};
+ghost use Rattle.machine.specs.Labels.{plainBlock};
+ghost use Rattle.machine.specs.Lists.{limitsFrom};
+ghost use Rattle.line.specs.Answers.{answerBy, givenNumbers};
 ghost use Rattle.line.specs.Blocks as blocks;
 ghost use Rattle.planner.specs.Calls.{Called, Freshened, Showed, Told};
-ghost use Rattle.fullerecru.specs.Planners.{Gave, TakenOut};
-ghost use Rattle.machine.specs.Lists.{limitsFrom};
-use crate::numbers::limits_of;
+ghost use Rattle.fullerecru.specs.Moves.{Stored};
+ghost use Rattle.fullerecru.specs.Planners.{TakenOut};
+use crate::numbers::added_number;
 use crate::numbers::put_moves;
+use crate::numbers::shown_number;
 use display::checked_number;
 use display::refusal_number;
-use line::AddAnswer;
 use line::Given;
-use line::ShowAnswer;
 use line::TakeAnswer;
-use machine::Block;
+use line::lists::store_given_numbers;
+use machine::blocks::plain_block;
+use machine::lists::limits_from;
 use planner::NUMBERS;
 use planner::add;
 use planner::fresh;
@@ -23,45 +26,14 @@ use planner::shown;
 use planner::take;
 use planner::told;
 
-// The number on the display of an add's answer.
-fn added_number(a: AddAnswer) -> u64
-    ensures { λ r. ⌜ r ≡ answerNumber (addMeans a) ⌝ }
-{
-    match a {
-        AddAnswer::Added => 0,
-        AddAnswer::Refused(why) => refusal_number(why),
-    }
-}
-
-// The number on the display of what showing the plan answers.
-fn shown_number(a: ShowAnswer) -> u64
-    ensures { λ r. ⌜ r ≡ answerNumber (showMeans a) ⌝ }
-{
-    match a {
-        ShowAnswer::Shown => 0,
-        ShowAnswer::Refused(why) => refusal_number(why),
-    }
-}
-
 // Stores a block given out in the lent lists.
 fn hand_out(g: Given, moves: &mut [i64], numbers: &mut [u64])
     requires { ⌜ (length (now moves) ≡ 3) × (length (now numbers) ≡ 11) ⌝ }
-    ensures { λ r. ⌜ Gave g (now (moves .exit)) (now (numbers .exit)) ⌝ }
+    ensures { λ r. ⌜ Stored (g .block) (givenNumbers g) (now (moves .exit)) (now (numbers .exit)) ⌝ }
 {
     let b = g.block;
-    let ramp = g.ramp;
     put_moves(b, moves);
-    numbers[0] = b.feed;
-    numbers[1] = b.radius;
-    numbers[2] = b.mark;
-    numbers[3] = g.length;
-    numbers[4] = g.accel;
-    numbers[5] = g.entry;
-    numbers[6] = g.exit;
-    numbers[7] = ramp.peak;
-    numbers[8] = ramp.up;
-    numbers[9] = ramp.cruise;
-    numbers[10] = ramp.down;
+    store_given_numbers(g, numbers);
 }
 
 // Makes a fresh planner of nine limits: accelerations x, y, z, µm/s²; speeds x, y, z, µm/s; corner
@@ -70,7 +42,7 @@ fn hand_out(g: Given, moves: &mut [i64], numbers: &mut [u64])
 pub extern "C" fn fullerecru_fresh(memory: &mut [u64; NUMBERS], limits: &[u64; 9]) -> u64
     ensures { λ r. ⌜ Freshened (now (memory .entry)) (limitsFrom (now (limits .entry))) r (now (memory .exit)) ⌝ }
 {
-    checked_number(fresh(memory, limits_of(limits)))
+    checked_number(fresh(memory, limits_from(limits)))
 }
 
 // Adds a block: moves, µm; feed, µm/s; radius, µm, 0 for no curve; mark. Refuses by 2 to 7.
@@ -84,17 +56,9 @@ pub extern "C" fn fullerecru_add(
     radius: u64,
     mark: u64,
 ) -> u64
-    ensures { λ r. ⌜ Called (now (memory .entry)) (blocks.add (record { x = x; y = y; z = z; feed = feed; radius = radius; mark = mark })) (answerBy r) (now (memory .exit)) ⌝ }
+    ensures { λ r. ⌜ Called (now (memory .entry)) (blocks.add (plainBlock x y z feed radius mark)) (answerBy r) (now (memory .exit)) ⌝ }
 {
-    let b = Block {
-        x: x,
-        y: y,
-        z: z,
-        feed: feed,
-        radius: radius,
-        mark: mark,
-    };
-    added_number(add(memory, b))
+    added_number(add(memory, plain_block(x, y, z, feed, radius, mark)))
 }
 
 // Gives out the first block: its moves, µm, and feed, radius, mark, length, µm, acceleration, µm/s²,

@@ -1,15 +1,18 @@
 // The tape's readers and writers for C. Bytes are handed over as a pointer and their number.
 ghost use mathlib.Core.Path.{_≡_};
 ghost use lib.ListN.{length};
+ghost use Rattle.machine.specs.Labels.{plainBlock};
 ghost use Rattle.machine.specs.Lists.{limitsFrom};
 ghost use Rattle.tape.specs.Answers.{limitsWriteRefusal, limitsWritten, recordWriteRefusal, recordWritten};
-ghost use Rattle.fullerecru.specs.Tapes.{LimitsLent, PutBlock, RecordLent, Written, limitsList};
-use crate::numbers::limits_of;
+ghost use Rattle.fullerecru.specs.Moves.{Stored, blockNumbers};
+ghost use Rattle.fullerecru.specs.Tapes.{LimitsLent, RecordLent, Written};
 use crate::numbers::put_moves;
 use display::checked_number;
 use display::refusal_number;
 use machine::Block;
-use machine::Limits;
+use machine::blocks::plain_block;
+use machine::lists::limits_from;
+use machine::lists::store_limits;
 use tape::LimitsRead;
 use tape::RecordRead;
 use tape::limits::read_limits;
@@ -17,28 +20,10 @@ use tape::limits::write_limits;
 use tape::records::read_record;
 use tape::records::write_record;
 
-// Stores limits as nine numbers.
-fn put_limits(l: Limits, list: &mut [u64])
-    requires { ⌜ length (now list) ≡ 9 ⌝ }
-    ensures { λ r. ⌜ now (list .exit) ≡ limitsList l ⌝ }
-{
-    let accel = l.accel;
-    let speed = l.speed;
-    list[0] = accel.x;
-    list[1] = accel.y;
-    list[2] = accel.z;
-    list[3] = speed.x;
-    list[4] = speed.y;
-    list[5] = speed.z;
-    list[6] = l.jump;
-    list[7] = l.chord;
-    list[8] = l.tick;
-}
-
 // Stores a block as its moves and its other numbers.
 fn put_block(b: Block, moves: &mut [i64], numbers: &mut [u64])
     requires { ⌜ (length (now moves) ≡ 3) × (length (now numbers) ≡ 3) ⌝ }
-    ensures { λ r. ⌜ PutBlock b (now (moves .exit)) (now (numbers .exit)) ⌝ }
+    ensures { λ r. ⌜ Stored b (blockNumbers b) (now (moves .exit)) (now (numbers .exit)) ⌝ }
 {
     put_moves(b, moves);
     numbers[0] = b.feed;
@@ -56,7 +41,7 @@ pub extern "C" fn fullerecru_read_limits(bytes: &[u8], limits: &mut [u64; 9]) ->
     match read_limits(bytes) {
         LimitsRead::Refused(why) => refusal_number(why),
         LimitsRead::Read(l) => {
-            put_limits(l, limits);
+            store_limits(l, limits);
             0
         }
     }
@@ -68,7 +53,7 @@ pub extern "C" fn fullerecru_read_limits(bytes: &[u8], limits: &mut [u64; 9]) ->
 pub extern "C" fn fullerecru_write_limits(limits: &[u64; 9], bytes: &mut [u8]) -> u64
     ensures { λ r. ⌜ Written (limitsWriteRefusal (limitsFrom (now (limits .entry))) (now (bytes .entry))) (limitsWritten (limitsFrom (now (limits .entry))) (now (bytes .entry))) r (now (bytes .exit)) ⌝ }
 {
-    checked_number(write_limits(limits_of(limits), bytes))
+    checked_number(write_limits(limits_from(limits), bytes))
 }
 
 // Reads the record that the bytes begin with, 16 of them; later bytes play no part. Gives the block's
@@ -104,15 +89,7 @@ pub extern "C" fn fullerecru_write_record(
     mark: u64,
     bytes: &mut [u8],
 ) -> u64
-    ensures { λ r. ⌜ Written (recordWriteRefusal (record { x = x; y = y; z = z; feed = feed; radius = radius; mark = mark }) (now (bytes .entry))) (recordWritten (record { x = x; y = y; z = z; feed = feed; radius = radius; mark = mark }) (now (bytes .entry))) r (now (bytes .exit)) ⌝ }
+    ensures { λ r. ⌜ Written (recordWriteRefusal (plainBlock x y z feed radius mark) (now (bytes .entry))) (recordWritten (plainBlock x y z feed radius mark) (now (bytes .entry))) r (now (bytes .exit)) ⌝ }
 {
-    let b = Block {
-        x: x,
-        y: y,
-        z: z,
-        feed: feed,
-        radius: radius,
-        mark: mark,
-    };
-    checked_number(write_record(b, bytes))
+    checked_number(write_record(plain_block(x, y, z, feed, radius, mark), bytes))
 }

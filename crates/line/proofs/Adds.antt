@@ -17,21 +17,22 @@ use Rattle.profile.specs.Passes.{startLimit, CanBrake}
 use Rattle.profile.proofs.Brake.{add-keeps}
 use Rattle.profile.proofs.Kept.{Extended, extended-first}
 use Rattle.machine.specs.Checks.{blockRefusal}
+use Rattle.machine.specs.Labels.{noBlock}
 use Rattle.machine.specs.Line.{spansOf}
 use Rattle.machine.specs.Numbers.{numbersOf, blockCap}
 use Rattle.machine.specs.declared.Block.{Block}
-use Rattle.machine.specs.declared.Limits.{Limits}
+use Rattle.machine.specs.declared.Machine.{Machine}
 use Rattle.line.specs.Answers.{answerBy}
 use Rattle.line.specs.Blocks.{mostHeld, Line, add, addRefusal, addAfter, lineAnswer, lineAfter}
-use Rattle.line.specs.Ring.{Place, Ring, cutLimits, slot, placeAt, blockIn, numbersIn, placeOf, junctionAfter, newJunction, walkBack, putLast, addedIn, ringAnswer, ringAfter}
-use Rattle.line.specs.Holds.{noBlock, blockAt, keptAt, Placed, Holds}
+use Rattle.line.specs.Ring.{Place, Ring, cutMachine, slot, placeAt, blockIn, numbersIn, placeOf, junctionAfter, newJunction, walkBack, putLast, addedIn, ringAnswer, ringAfter}
+use Rattle.line.specs.Holds.{blockAt, keptAt, Placed, Holds}
 use Rattle.machine.proofs.Spans.{spans-length, spans-first, spans-cap}
 use Rattle.line.proofs.Spans.{spans-last}
-use Rattle.line.proofs.Places.{limits-kept, block-back, junction-back, placed-reach, place-same, place-other}
+use Rattle.line.proofs.Places.{machine-kept, block-back, junction-back, placed-reach, place-same, place-other}
 use Rattle.line.proofs.Walk.{Walked, walk-walked, Fitting, walk-braked}
 
--- places that differ in limits alone hold the same blocks
-placed-walked : {old new : Ring} {l : Limits} {blocks : List Block} → Walked old new → length blocks ≤ mostHeld → Placed old l blocks → Placed new l blocks
+-- places that differ in brakes alone hold the same blocks
+placed-walked : {old new : Ring} {m : Machine} {blocks : List Block} → Walked old new → length blocks ≤ mostHeld → Placed old m blocks → Placed new m blocks
 placed-walked w room p = record {
   block = λ k h. ap blockIn (w .same k (omega arith)) ∙ p .block k h;
   numbers = λ k h. ap numbersIn (w .same k (omega arith)) ∙ p .numbers k h;
@@ -63,24 +64,24 @@ module _ (blocks : List Block) (b : Block) where
         rw (last, more-last) new
   ]
 
-  module _ (l : Limits) where
-    -- the step of the new block
+  module _ (m : Machine) where
+    -- the span of the new block
     abbrev newSpan : Span
-    newSpan = spanAt (spansOf l more) (length blocks)
+    newSpan = spanAt (spansOf m more) (length blocks)
 
     -- the caps of the old ones are as they were
-    spans-old : (k : ℕ) → k < length blocks → capAt (spansOf l more) k ≡ capAt (spansOf l blocks) k
+    spans-old : (k : ℕ) → k < length blocks → capAt (spansOf m more) k ≡ capAt (spansOf m blocks) k
     spans-old k h =
-        ap (λ (s : List Span). capAt s k) (spans-last l blocks b)
-        ∙ ap (λ (s : Span). s .cap) (List·getD-append (spansOf l blocks) (newSpan ∷ []) noSpan k (omega (arith, spans-length l blocks)))
+        ap (λ (s : List Span). capAt s k) (spans-last m blocks b)
+        ∙ ap (λ (s : Span). s .cap) (List·getD-append (spansOf m blocks) (newSpan ∷ []) noSpan k (omega (arith, spans-length m blocks)))
 
     -- the committed squared speed stays within the first block's cap: in an empty line it is 0
-    more-entered : (committed : ℕ) → CanBrake committed (spansOf l blocks) → (0 < length blocks → committed ≤ blockCap l (blockAt blocks 0))
-        → committed ≤ blockCap l (blockAt more 0)
+    more-entered : (committed : ℕ) → CanBrake committed (spansOf m blocks) → (0 < length blocks → committed ≤ blockCap (m .limits) (blockAt blocks 0))
+        → committed ≤ blockCap (m .limits) (blockAt more 0)
     unfolding spansOf startLimit
     more-entered committed = go blocks
       where
-        go : (bs : List Block) → CanBrake committed (spansOf l bs) → (0 < length bs → committed ≤ blockCap l (blockAt bs 0)) → committed ≤ blockCap l (blockAt (bs ++ b ∷ []) 0)
+        go : (bs : List Block) → CanBrake committed (spansOf m bs) → (0 < length bs → committed ≤ blockCap (m .limits) (blockAt bs 0)) → committed ≤ blockCap (m .limits) (blockAt (bs ++ b ∷ []) 0)
         go [] c e = omega arith
         go (a ∷ bs) c e = e (omega arith)
 
@@ -90,39 +91,40 @@ module _ {r : Ring} {line : Line} (b : Block) (h : Holds r line) (passed : block
   longer = line .blocks ++ b ∷ []
 
   abbrev spans : List Span
-  spans = spansOf (line .limits) longer
+  spans = spansOf (line .machine) longer
 
   -- the place as the ring's definition has it, and as the line has it
   abbrev stored : Place
-  stored = placeOf b (numbersOf (cutLimits (r .limits)) b) (newJunction r b)
+  stored = placeOf b (numbersOf (cutMachine (r .machine)) b) (newJunction r b)
 
   abbrev wanted : Place
-  wanted = placeOf b (numbersOf (line .limits) b) (capAt spans (length (line .blocks)))
+  wanted = placeOf b (numbersOf (line .machine) b) (capAt spans (length (line .blocks)))
 
-  -- they are the same: the limits are used as they are,
-  cut : cutLimits (r .limits) ≡ line .limits
-  cut = ap cutLimits (h .limits) ∙ limits-kept (line .limits) (h .limited)
+  -- they are the same: the machine is used as it is,
+  cut : cutMachine (r .machine) ≡ line .machine
+  cut = ap cutMachine (h .machine) ∙ machine-kept (line .machine) (h .limited)
 
-  -- and the junction cap is that of the new step
+  -- and the junction cap is that of the new span
   new-junction : newJunction r b ≡ capAt spans (length (line .blocks))
   new-junction = go (r .count) (h .counted)
     where
       go : (c : ℕ) → c ≡ length (line .blocks)
-          → cond (eqb c 0) 0 (junctionAfter (cutLimits (r .limits)) (placeAt r (c - 1)) b (numbersOf (cutLimits (r .limits)) b)) ≡ capAt spans (length (line .blocks))
-      go zero e = rw (← e) (sym (spans-first (line .limits) longer))
+          → cond (eqb c 0) 0 (junctionAfter (cutMachine (r .machine) .limits .jump) (placeAt r (c - 1)) b (numbersOf (cutMachine (r .machine)) b)) ≡ capAt spans (length (line .blocks))
+      go zero e = rw (← e) (sym (spans-first (line .machine) longer))
       go (suc c) e =
           let before : suc c - 1 ≡ c = omega arith in
           let held : c < length (line .blocks) = omega arith in
           let last : blockAt longer (suc c) ≡ b = rw e (more-last (line .blocks) b) in
-          rw (ne-eqb (suc c) 0 (omega arith), before, cut, ← e, spans-cap noBlock (line .limits) longer c (omega (arith, more-length (line .blocks) b)), more-old (line .blocks) b c held, last)
-          (junction-back (line .limits) (placeAt r c) (blockAt (line .blocks) c) b (h .passed c held) (h .placed .block c held) (h .placed .numbers c held))
+          let jump : cutMachine (r .machine) .limits .jump ≡ line .machine .limits .jump = ap (λ (m : Machine). m .limits .jump) cut in
+          rw (ne-eqb (suc c) 0 (omega arith), before, cut, jump, ← e, spans-cap noBlock (line .machine) longer c (omega (arith, more-length (line .blocks) b)), more-old (line .blocks) b c held, last)
+          (junction-back (line .machine) (placeAt r c) (blockAt (line .blocks) c) b (h .passed c held) (h .placed .block c held) (h .placed .numbers c held))
 
   stored-is : stored ≡ wanted
   stored-is = λ i. placeOf b (numbersOf (cut i) b) (new-junction i)
 
   -- the ring with the block in its place
   abbrev put : Ring
-  put = record { limits = r .limits; first = r .first; count = r .count + 1; committed = r .committed; places = set (r .places) (slot r (r .count)) stored }
+  put = record { machine = r .machine; first = r .first; count = r .count + 1; committed = r .committed; places = set (r .places) (slot r (r .count)) stored }
 
   -- it has 64 places, the old blocks' as they were and the new one's
   put-sized : length (put .places) ≡ mostHeld
@@ -135,41 +137,41 @@ module _ {r : Ring} {line : Line} (b : Block) (h : Holds r line) (passed : block
   put-last = rw (← h .counted) (place-same r (h .sized) (r .count) stored) ∙ stored-is
 
   -- which are the blocks of the longer line
-  put-placed : Placed put (line .limits) longer
+  put-placed : Placed put (line .machine) longer
   put-placed = record {
     block =
         more-each (line .blocks) b (λ k c. blockIn (placeAt put k) ≡ c)
         (λ k g. ap blockIn (put-old k g) ∙ h .placed .block k g)
-        (ap blockIn put-last ∙ block-back b (numbersOf (line .limits) b) (capAt spans (length (line .blocks))) passed);
+        (ap blockIn put-last ∙ block-back b (numbersOf (line .machine) b) (capAt spans (length (line .blocks))) passed);
     numbers =
-        more-each (line .blocks) b (λ k c. numbersIn (placeAt put k) ≡ numbersOf (line .limits) c)
+        more-each (line .blocks) b (λ k c. numbersIn (placeAt put k) ≡ numbersOf (line .machine) c)
         (λ k g. ap numbersIn (put-old k g) ∙ h .placed .numbers k g)
         (ap numbersIn put-last);
     junction = λ k q g.
         more-each (line .blocks) b (λ k c. 0 < k → placeAt put k .junction ≡ capAt spans k)
-        (λ k g q. ap (λ (p : Place). p .junction) (put-old k g) ∙ h .placed .junction k q g ∙ sym (spans-old (line .blocks) b (line .limits) k g))
+        (λ k g q. ap (λ (p : Place). p .junction) (put-old k g) ∙ h .placed .junction k q g ∙ sym (spans-old (line .blocks) b (line .machine) k g))
         (λ q. ap (λ (p : Place). p .junction) put-last)
         k g q;
   }
 
   -- the longer line's spans are the old ones and one more
   abbrev old : List Span
-  old = spansOf (line .limits) (line .blocks)
+  old = spansOf (line .machine) (line .blocks)
 
-  abbrev step : Span
-  step = newSpan (line .blocks) b (line .limits)
+  abbrev span : Span
+  span = newSpan (line .blocks) b (line .machine)
 
   old-length : length old ≡ length (line .blocks)
-  old-length = spans-length (line .limits) (line .blocks)
+  old-length = spans-length (line .machine) (line .blocks)
 
   old-room : length old < mostHeld
   old-room = omega (arith, old-length)
 
-  split : spans ≡ old ++ (step ∷ [])
-  split = spans-last (line .limits) (line .blocks) b
+  split : spans ≡ old ++ (span ∷ [])
+  split = spans-last (line .machine) (line .blocks) b
 
   -- so the walk back may begin: the caps and reaches fit,
-  put-fits : Fitting old step old-room put
+  put-fits : Fitting old span old-room put
   put-fits = record {
     sized = put-sized;
     caps = λ k q g.
@@ -178,10 +180,10 @@ module _ {r : Ring} {line : Line} (b : Block) (h : Holds r line) (passed : block
         placed-reach put-placed k (omega (arith, old-length, more-length (line .blocks) b)) ∙ ap (λ (s : List Span). reachAt s k) split;
   }
 
-  -- and the limits are still those of the old line
-  put-extends : Extended old step (keptAt put) (r .count)
+  -- and the brakes are still those of the old line
+  put-extends : Extended old span (keptAt put) (r .count)
   put-extends =
-      extended-first old step (keptAt r) (keptAt put) (r .count) (h .counted ∙ sym old-length)
+      extended-first old span (keptAt r) (keptAt put) (r .count) (h .counted ∙ sym old-length)
       (rw (add-one (r .count)) (ap (λ (p : Place). p .brake) (place-same r (h .sized) (r .count) stored)))
       same (h .kept)
     where
@@ -190,22 +192,22 @@ module _ {r : Ring} {line : Line} (b : Block) (h : Holds r line) (passed : block
       same (suc k) p q = ap (λ (p : Place). p .brake) (put-old k (omega (arith, h .counted)))
 
   -- after the walk back the ring holds the line with the block last
-  put-holds : Holds (putLast r b) (record { limits = line .limits; committed = line .committed; blocks = longer })
+  put-holds : Holds (putLast r b) (record { machine = line .machine; committed = line .committed; blocks = longer })
   unfolding putLast
   put-holds =
       let w : Walked put (walkBack (r .count) put) = walk-walked (r .count) put put-sized (omega (arith, h .counted)) in
       record {
         limited = h .limited;
-        limits = w .limits ∙ h .limits;
+        machine = w .machine ∙ h .machine;
         committed = w .committed ∙ h .committed;
         sized = w .sized;
         room = omega (arith, more-length (line .blocks) b);
         counted = omega (arith, w .count, h .counted, more-length (line .blocks) b);
         passed = more-each (line .blocks) b (λ k c. blockRefusal c ≡ 0) (h .passed) passed;
         placed = placed-walked w (omega (arith, more-length (line .blocks) b)) put-placed;
-        kept = rw split (walk-braked old step old-room (r .count) put put-fits (omega (arith, h .counted, old-length)) put-extends);
-        brakes = rw split (add-keeps (line .committed) old (step ∷ []) (h .brakes));
-        entered = λ q. more-entered (line .blocks) b (line .limits) (line .committed) (h .brakes) (h .entered);
+        kept = rw split (walk-braked old span old-room (r .count) put put-fits (omega (arith, h .counted, old-length)) put-extends);
+        brakes = rw split (add-keeps (line .committed) old (span ∷ []) (h .brakes));
+        entered = λ q. more-entered (line .blocks) b (line .machine) (line .committed) (h .brakes) (h .entered);
       }
 
 -- an add that is not refused: its block passes 2 to 6 and there is room

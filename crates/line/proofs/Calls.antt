@@ -9,7 +9,7 @@ use Rattle.profile.specs.Passes.{brake}
 use Rattle.machine.specs.Checks.{limitsRefusal}
 use Rattle.machine.specs.Line.{spansOf}
 use Rattle.machine.specs.declared.Block.{Block}
-use Rattle.machine.specs.declared.Limits.{Limits}
+use Rattle.machine.specs.declared.Machine.{Machine}
 use Rattle.line.specs.Blocks.{mostHeld, Line, Call, add, take, freshLine, addRefusal, addAfter, takeAfter, linePlan, lineAnswer, lineAfter, lineAnswers, lineAfterAll}
 use Rattle.line.specs.Ring.{Place, Ring, freshRing, ringAnswer, ringAfter, ringAnswers, ringAfterAll}
 use Rattle.line.specs.Holds.{Holds}
@@ -17,11 +17,11 @@ use Rattle.line.proofs.Adds.{holds-add}
 use Rattle.line.proofs.Takes.{holds-take}
 
 -- A fresh ring holds the fresh line, whatever its places hold.
-pub holds-fresh : (l : Limits) (places : List Place) → limitsRefusal l ≡ 0 → length places ≡ mostHeld → Holds (freshRing l places) (freshLine l)
+pub holds-fresh : (m : Machine) (places : List Place) → limitsRefusal (m .limits) ≡ 0 → length places ≡ mostHeld → Holds (freshRing m places) (freshLine m)
 unfolding spansOf brake
-holds-fresh l places e s = record {
+holds-fresh m places e s = record {
   limited = e;
-  limits = refl;
+  machine = refl;
   committed = refl;
   sized = s;
   room = omega arith;
@@ -48,22 +48,22 @@ holds-calls (c ∷ calls) h =
     let more = holds-calls calls (one .1) in
     ((λ i. one .0 i ∷ more .0 i), more .1)
 
--- A call leaves the limits as they are,
-limits-call : (line : Line) (c : Call) → lineAfter line c .limits ≡ line .limits
+-- A call leaves the machine as it is,
+machine-call : (line : Line) (c : Call) → lineAfter line c .machine ≡ line .machine
 unfolding lineAfter
-limits-call line (add b) = go (addRefusal (length (line .blocks)) b)
+machine-call line (add b) = go (addRefusal (length (line .blocks)) b)
   where
-    go : (n : ℕ) → addAfter n line b .limits ≡ line .limits
+    go : (n : ℕ) → addAfter n line b .machine ≡ line .machine
     go zero = refl
     go (suc n) = refl
-limits-call line take = go (line .blocks) (linePlan line)
+machine-call line take = go (line .blocks) (linePlan line)
   where
-    go : (blocks : List Block) (plan : List ℕ) → takeAfter (line .limits) (line .committed) blocks plan .limits ≡ line .limits
+    go : (blocks : List Block) (plan : List ℕ) → takeAfter (line .machine) (line .committed) blocks plan .machine ≡ line .machine
     go [] plan = refl
     go (b ∷ rest) plan = refl
 
 -- and so do all.
-pub limits-after : (line : Line) (calls : List Call) → lineAfterAll line calls .limits ≡ line .limits
+pub machine-after : (line : Line) (calls : List Call) → lineAfterAll line calls .machine ≡ line .machine
 unfolding lineAfterAll
-limits-after line [] = refl
-limits-after line (c ∷ calls) = limits-after (lineAfter line c) calls ∙ limits-call line c
+machine-after line [] = refl
+machine-after line (c ∷ calls) = machine-after (lineAfter line c) calls ∙ machine-call line c

@@ -6,7 +6,7 @@ use Prim.Native.Nat.{ℕ, _+_}
 use borrow.Author.Tests.{eqb-true, eqb-false}
 use lib.Dec.{eqb}
 use lib.ListN.{length}
-use Rattle.machine.specs.declared.Limits.{Limits}
+use Rattle.machine.specs.declared.Machine.{Machine}
 use Rattle.line.specs.Answers.{Answer}
 use Rattle.line.specs.Blocks.{Line, Call}
 use Rattle.line.specs.Demand.{ShownOf, Demand3}
@@ -19,8 +19,8 @@ shown-one {line} {lent} {left} {left′} {s} {s′} p q = by (eqb (length lent) 
     by false e = let f = eqb-false _ _ e in (p .other f .0 ∙ sym (q .other f .0), p .other f .1 ∙ sym (q .other f .1))
 
 -- so no planner that answers, tells or shows anything else meets it
-pub demand-one : {l : Limits} {calls : List Call} {answers answers′ : List Answer} {told told′ : ℕ} {lent left left′ : List ℕ} {said said′ : Answer}
-    → Demand3 l calls answers told lent said left → Demand3 l calls answers′ told′ lent said′ left′
+pub demand-one : {m : Machine} {calls : List Call} {answers answers′ : List Answer} {told told′ : ℕ} {lent left left′ : List ℕ} {said said′ : Answer}
+    → Demand3 m calls answers told lent said left → Demand3 m calls answers′ told′ lent said′ left′
     → (answers ≡ answers′) × (told ≡ told′) × (said ≡ said′) × (left ≡ left′)
 demand-one p q =
     let shown = shown-one (p .plan) (q .plan) in

@@ -13,15 +13,19 @@ use Rattle.fields.specs.Signed.{signedOf, bitsOf}
 use Rattle.fields.proofs.Signed.{signed-bits, mag-natAbs}
 use Rattle.profile.specs.Line.{reachAt}
 use Rattle.machine.specs.Checks.{limitsRefusal, blockRefusal}
+use Rattle.machine.specs.Labels.{noBlock, labelledBlock, labelOf}
 use Rattle.machine.specs.Line.{spansOf}
-use Rattle.machine.specs.Numbers.{LimitsBelow, numbersOf, lengthOf, blockCap, junctionCap, cornerCap}
+use Rattle.machine.specs.Numbers.{LimitsBelow, numbersOf, junctionCap, junctionFrom}
 use Rattle.machine.specs.declared.Block.{Block}
 use Rattle.machine.specs.declared.Limits.{Limits}
+use Rattle.machine.specs.declared.Machine.{Machine}
 use Rattle.machine.specs.declared.Numbers.{Numbers}
 use Rattle.machine.proofs.Bounds.{limits-below, moves-below, short}
+use Rattle.machine.proofs.Junctions.{junction-from-numbers}
+use Rattle.machine.proofs.Labels.{label-back}
 use Rattle.line.specs.Blocks.{mostHeld}
-use Rattle.line.specs.Ring.{Place, Ring, noPlace, cutLimits, slot, placeAt, withPlace, blockIn, numbersIn, placeOf, junctionAfter}
-use Rattle.line.specs.Holds.{Placed, noBlock}
+use Rattle.line.specs.Ring.{Place, Ring, noPlace, cutLimits, cutMachine, slot, placeAt, withPlace, blockIn, numbersIn, cutNumbers, placeOf, junctionAfter}
+use Rattle.line.specs.Holds.{Placed}
 use Rattle.machine.proofs.Spans.{spans-reach}
 
 -- limits that pass 1 are used as they are
@@ -40,6 +44,9 @@ limits-kept l e =
       mod-eq-of-lt (b .4),
     )
 
+pub machine-kept : (m : Machine) → limitsRefusal (m .limits) ≡ 0 → cutMachine m ≡ m
+machine-kept m e = λ i. record { limits = limits-kept (m .limits) e i; torque = m .torque }
+
 -- a move comes back from its 21 bits
 move-back : (z : ℤ) → natAbs z < 2 ^ 20 → signedOf 21 (bitsOf 21 z) ≡ z
 move-back z h = signed-bits 21 z (omega arith) (omega (arith, mag-natAbs z))
@@ -48,22 +55,26 @@ move-back z h = signed-bits 21 z (omega arith) (omega (arith, mag-natAbs z))
 pub block-back : (b : Block) (n : Numbers) (junction : ℕ) → blockRefusal b ≡ 0 → blockIn (placeOf b n junction) ≡ b
 block-back b n junction e =
     let m = moves-below b e in
-    rw (move-back (b .x) (m .0), move-back (b .y) (m .1), move-back (b .z) (m .2))
+    (λ i. labelledBlock (move-back (b .x) (m .0) i) (move-back (b .y) (m .1) i) (move-back (b .z) (m .2) i) (b .feed) (b .radius) (labelOf b))
+    ∙ label-back b e
+
+-- the numbers of a block that passes are used as they are: its length is short
+numbers-kept : (m : Machine) (p : Place) (a : Block) → blockRefusal a ≡ 0 → numbersIn p ≡ numbersOf m a → cutNumbers p ≡ numbersOf m a
+unfolding numbersOf
+numbers-kept m p a r n =
+    let long : p .length % 2 ^ 30 ≡ p .length = omega (arith, ap (λ (k : Numbers). k .length) n, short a r) in
+    (λ i. record { length = long i; accel = p .accel; reach = p .reach; cap = p .cap }) ∙ n
 
 -- the cap of the junction after a place that holds a block with its numbers
-pub junction-back : (l : Limits) (p : Place) (a b : Block) → blockRefusal a ≡ 0 → blockIn p ≡ a → numbersIn p ≡ numbersOf l a
-    → junctionAfter l p b (numbersOf l b) ≡ junctionCap l a b
-unfolding junctionAfter junctionCap cornerCap numbersOf
-junction-back l p a b r e n =
-    let long : p .length ≡ lengthOf a = ap (λ (m : Numbers). m .length) n in
-    let cap : p .cap ≡ blockCap l a = ap (λ (m : Numbers). m .cap) n in
-    let cut : lengthOf a % 2 ^ 30 ≡ lengthOf a = omega (arith, short a r) in
-    rw (long, cap, cut, e)
+pub junction-back : (m : Machine) (p : Place) (a b : Block) → blockRefusal a ≡ 0 → blockIn p ≡ a → numbersIn p ≡ numbersOf m a
+    → junctionAfter (m .limits .jump) p b (numbersOf m b) ≡ junctionCap (m .limits) a b
+unfolding junctionAfter
+junction-back m p a b r e n = (λ i. junctionFrom (m .limits .jump) (e i) (numbers-kept m p a r n i) b (numbersOf m b)) ∙ junction-from-numbers m a b
 
 -- the reaches of the places are those of the spans
-pub placed-reach : {r : Ring} {l : Limits} {blocks : List Block} → Placed r l blocks → (k : ℕ) → k < length blocks → placeAt r k .reach ≡ reachAt (spansOf l blocks) k
+pub placed-reach : {r : Ring} {m : Machine} {blocks : List Block} → Placed r m blocks → (k : ℕ) → k < length blocks → placeAt r k .reach ≡ reachAt (spansOf m blocks) k
 unfolding numbersOf
-placed-reach {r} {l} {blocks} p k h = ap (λ (n : Numbers). n .reach) (p .numbers k h) ∙ sym (spans-reach noBlock l blocks k h)
+placed-reach {r} {m} {blocks} p k h = ap (λ (n : Numbers). n .reach) (p .numbers k h) ∙ sym (spans-reach noBlock m blocks k h)
 
 module _ (r : Ring) (sized : length (r .places) ≡ mostHeld) where
   -- what is stored at a place is read there,

@@ -1,6 +1,6 @@
 -- The number told and the plan shown by a ring that holds a line: the line's number of blocks and its highest lawful profile.
 -- From profile's laws of the plan.
-use mathlib.Core.Path.{_≡_, refl, ap, sym, _∙_}
+use mathlib.Core.Path.{_≡_, ap, sym, _∙_}
 use mathlib.Core.List.{List, _∷_}
 use Prim.Native.Nat.{ℕ, zero, suc, _+_, _<_}
 use native.Mathlib.Omega.{arith}
@@ -18,31 +18,22 @@ use Rattle.line.specs.Demand.{PlanHighest}
 use Rattle.machine.proofs.Spans.{spans-length}
 use Rattle.line.proofs.Places.{placed-reach}
 
--- One number more than blocks is shown, whatever the ring holds.
-pub shown-length : (r : Ring) → length (shownIn r) ≡ toldOf r + 1
-unfolding speedsFrom
-shown-length r = go (toldOf r) 0 (r .committed)
-  where
-    go : (n k entry : ℕ) → length (speedsFrom r n k entry) ≡ n + 1
-    go zero k entry = refl
-    go (suc n) k entry = omega (arith, go n (suc k) (exitFrom entry (placeAt r k .reach) (placeAt r k .brake)))
-
 -- From block k on, the numbers shown are the forward pass of the spans whose reaches and backward pass the places have.
 speeds-forward : (r : Ring) (spans : List Span)
     → ((k : ℕ) → k < length spans → placeAt r k .reach ≡ reachAt spans k)
     → ((k : ℕ) → k < length spans → placeAt r k .brake ≡ brake (drop (suc k) spans))
     → (n k entry : ℕ) → n + k ≡ length spans → speedsFrom r n k entry ≡ forward entry (drop k spans)
 unfolding speedsFrom forward
-speeds-forward r spans reaches limits zero k entry e = rw (drop-of-length-le spans {i = k} (omega arith))
-speeds-forward r spans reaches limits (suc n) k entry e =
+speeds-forward r spans reaches brakes zero k entry e = rw (drop-of-length-le spans {i = k} (omega arith))
+speeds-forward r spans reaches brakes (suc n) k entry e =
     let inside : k < length spans = omega arith in
-    rw (drop-cons spans k noSpan, ← reaches k inside, ← limits k inside)
+    rw (drop-cons spans k noSpan, ← reaches k inside, ← brakes k inside)
     (ap (λ (s : List ℕ). entry ∷ s)
-    (speeds-forward r spans reaches limits n (suc k) (exitFrom entry (placeAt r k .reach) (placeAt r k .brake)) (omega arith)))
+    (speeds-forward r spans reaches brakes n (suc k) (exitFrom entry (placeAt r k .reach) (placeAt r k .brake)) (omega arith)))
 
 module _ {r : Ring} {line : Line} (h : Holds r line) where
   abbrev spans : List Span
-  spans = spansOf (line .limits) (line .blocks)
+  spans = spansOf (line .machine) (line .blocks)
 
   -- The number told is the line's number of blocks.
   pub holds-told : toldOf r ≡ length (line .blocks)
@@ -51,7 +42,7 @@ module _ {r : Ring} {line : Line} (h : Holds r line) where
   -- The plan shown is the line's,
   pub holds-shown : shownIn r ≡ linePlan line
   holds-shown =
-      let same : length spans ≡ length (line .blocks) = spans-length (line .limits) (line .blocks) in
+      let same : length spans ≡ length (line .blocks) = spans-length (line .machine) (line .blocks) in
       speeds-forward r spans (λ k g. placed-reach (h .placed) k (omega arith)) (λ k g. h .kept (suc k) (omega arith) g)
       (toldOf r) 0 (r .committed) (omega (arith, holds-told))
       ∙ ap (λ (c : ℕ). forward c spans) (h .committed)

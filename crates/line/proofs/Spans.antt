@@ -11,51 +11,51 @@ use Rattle.profile.proofs.Kept.{braked-head}
 use Rattle.machine.specs.Line.{spansOf, spansAfter}
 use Rattle.machine.specs.Numbers.{blockCap, junctionCap, reachOf}
 use Rattle.machine.specs.declared.Block.{Block}
-use Rattle.machine.specs.declared.Limits.{Limits}
+use Rattle.machine.specs.declared.Machine.{Machine}
 use Rattle.machine.proofs.CapLaws.{junction-largest}
 use Rattle.line.specs.Holds.{blockAt}
 
-module _ (l : Limits) where
+module _ (m : Machine) where
   -- one more block put last after a block
   after-last : (a : Block) (blocks : List Block) (b : Block)
-      → spansAfter l a (blocks ++ b ∷ []) ≡ spansAfter l a blocks ++ (spanAt (spansAfter l a (blocks ++ b ∷ [])) (length blocks) ∷ [])
+      → spansAfter m a (blocks ++ b ∷ []) ≡ spansAfter m a blocks ++ (spanAt (spansAfter m a (blocks ++ b ∷ [])) (length blocks) ∷ [])
   unfolding spansAfter
   after-last a [] b = refl
-  after-last a (c ∷ blocks) b = ap (λ (s : List Span). record { cap = junctionCap l a c; reach = reachOf l c } ∷ s) (after-last c blocks b)
+  after-last a (c ∷ blocks) b = ap (λ (s : List Span). record { cap = junctionCap (m .limits) a c; reach = reachOf m c } ∷ s) (after-last c blocks b)
 
-  -- a block put last adds its step last
+  -- a block put last adds its span last
   pub spans-last : (blocks : List Block) (b : Block)
-      → spansOf l (blocks ++ b ∷ []) ≡ spansOf l blocks ++ (spanAt (spansOf l (blocks ++ b ∷ [])) (length blocks) ∷ [])
+      → spansOf m (blocks ++ b ∷ []) ≡ spansOf m blocks ++ (spanAt (spansOf m (blocks ++ b ∷ [])) (length blocks) ∷ [])
   unfolding spansOf spansAfter
   spans-last [] b = refl
-  spans-last (c ∷ blocks) b = ap (λ (s : List Span). record { cap = 0; reach = reachOf l c } ∷ s) (after-last c blocks b)
+  spans-last (c ∷ blocks) b = ap (λ (s : List Span). record { cap = 0; reach = reachOf m c } ∷ s) (after-last c blocks b)
 
   -- without the first block, the spans are the rest's but for the first cap, which is never read
   module _ (a : Block) where
-    pub rest-cap : (blocks : List Block) (k : ℕ) → capAt (spansOf l (a ∷ blocks)) (suc (suc k)) ≡ capAt (spansOf l blocks) (suc k)
+    pub rest-cap : (blocks : List Block) (k : ℕ) → capAt (spansOf m (a ∷ blocks)) (suc (suc k)) ≡ capAt (spansOf m blocks) (suc k)
     unfolding spansOf spansAfter
     rest-cap [] k = refl
     rest-cap (b ∷ blocks) k = refl
 
-    pub rest-brakes : (speed : ℕ) (blocks : List Block) → CanBrake speed (drop 1 (spansOf l (a ∷ blocks))) → CanBrake speed (spansOf l blocks)
+    pub rest-brakes : (speed : ℕ) (blocks : List Block) → CanBrake speed (drop 1 (spansOf m (a ∷ blocks))) → CanBrake speed (spansOf m blocks)
     unfolding spansOf spansAfter
     rest-brakes speed [] h = h
     rest-brakes speed (b ∷ blocks) h =
-        rw (startLimit-head (record { cap = 0; reach = reachOf l b }) (record { cap = junctionCap l a b; reach = reachOf l b }) (spansAfter l b blocks) refl) h
+        rw (startLimit-head (record { cap = 0; reach = reachOf m b }) (record { cap = junctionCap (m .limits) a b; reach = reachOf m b }) (spansAfter m b blocks) refl) h
 
-    pub rest-braked : (kept : ℕ → ℕ) (blocks : List Block) → Braked (drop 1 (spansOf l (a ∷ blocks))) kept 1 → Braked (spansOf l blocks) kept 1
+    pub rest-braked : (kept : ℕ → ℕ) (blocks : List Block) → Braked (drop 1 (spansOf m (a ∷ blocks))) kept 1 → Braked (spansOf m blocks) kept 1
     unfolding spansOf spansAfter
     rest-braked kept [] h = h
     rest-braked kept (b ∷ blocks) h =
-        braked-head (record { cap = junctionCap l a b; reach = reachOf l b }) (record { cap = 0; reach = reachOf l b }) (spansAfter l b blocks) kept 1 (omega arith) h
+        braked-head (record { cap = junctionCap (m .limits) a b; reach = reachOf m b }) (record { cap = 0; reach = reachOf m b }) (spansAfter m b blocks) kept 1 (omega arith) h
 
     -- the backward pass after the first block is within its cap, and within the next block's
-    pub rest-under : (blocks : List Block) → brake (drop 1 (spansOf l (a ∷ blocks))) ≤ blockCap l a
+    pub rest-under : (blocks : List Block) → brake (drop 1 (spansOf m (a ∷ blocks))) ≤ blockCap (m .limits) a
     unfolding spansOf spansAfter brake
     rest-under [] = zero-le
-    rest-under (b ∷ blocks) = omega (arith, junction-largest l a b .has)
+    rest-under (b ∷ blocks) = omega (arith, junction-largest (m .limits) a b .has)
 
-    pub rest-entered : (blocks : List Block) → brake (drop 1 (spansOf l (a ∷ blocks))) ≤ blockCap l (blockAt blocks 0)
+    pub rest-entered : (blocks : List Block) → brake (drop 1 (spansOf m (a ∷ blocks))) ≤ blockCap (m .limits) (blockAt blocks 0)
     unfolding spansOf spansAfter brake
     rest-entered [] = zero-le
-    rest-entered (b ∷ blocks) = omega (arith, junction-largest l a b .has)
+    rest-entered (b ∷ blocks) = omega (arith, junction-largest (m .limits) a b .has)

@@ -1,6 +1,5 @@
 -- A take: a ring that holds a line answers as the line does and holds the rest afterwards. From profile's laws of the plan and
 -- those of spans and places.
-use mathlib.Core.Bool.{cond}
 use mathlib.Core.Path.{_≡_, refl, ap, subst, _∙_}
 use mathlib.Core.List.{List, _∷_, []}
 use Prim.Native.Nat.{ℕ, zero, suc, _+_, _<_}
@@ -12,55 +11,43 @@ use Rattle.profile.specs.Passes.{brake, exitFrom, planOf, Braked}
 use Rattle.profile.proofs.Plan.{plan-first, plan-exit, take-keeps}
 use Rattle.profile.proofs.Highest.{plan-lawful, plan-highest}
 use Rattle.profile.proofs.Kept.{braked-taken}
+use Rattle.machine.specs.Labels.{noBlock}
 use Rattle.machine.specs.Line.{spansOf}
-use Rattle.machine.specs.Numbers.{numbersOf, reachFrom, peakOf, rampOf, Rampable, rampable, noRamp}
+use Rattle.machine.specs.Numbers.{numbersOf, reachFrom, peakOf, rampOf, Rampable}
 use Rattle.machine.specs.declared.Block.{Block}
-use Rattle.machine.specs.declared.Limits.{Limits}
-use Rattle.machine.specs.declared.Numbers.{Numbers}
+use Rattle.machine.specs.declared.Machine.{Machine}
 use Rattle.machine.proofs.Rampables.{rampable-holds}
 use Rattle.machine.proofs.RampLaws.{numbers-rampable, ramp-fills}
 use Rattle.line.specs.declared.Given.{Given}
-use Rattle.line.specs.Answers.{gave, givenOf, answerBy}
+use Rattle.line.specs.Answers.{gave, givenOf, givenBetween, answerBy}
 use Rattle.line.specs.Blocks.{Line, Call, add, take, addRefusal, takeAnswer, takeAfter, lineAnswer, lineAfter}
 use Rattle.line.specs.Ring.{Place, Ring, noPlace, placeAt, blockIn, numbersIn, givenIn, takenFrom, takenAnswer, takenIn, ringAnswer, ringAfter}
-use Rattle.line.specs.Holds.{keptAt, Placed, Holds, noBlock}
+use Rattle.line.specs.Holds.{keptAt, Placed, Holds}
 use Rattle.line.specs.Demand.{GivenFrom}
 use Rattle.machine.proofs.Spans.{spans-length, spans-reach}
 use Rattle.line.proofs.Spans.{rest-cap, rest-brakes, rest-braked, rest-under, rest-entered}
 use Rattle.line.proofs.Places.{placed-reach}
 
--- a block given out with a ramp where there is one
-abbrev rampedOf : Block → Numbers → (entry exit : ℕ) → Given
-rampedOf b n entry exit =
-    record {
-      block = b;
-      length = n .length;
-      accel = n .accel;
-      entry = entry;
-      exit = exit;
-      ramp = cond (rampable n entry exit) (rampOf n entry exit) noRamp;
-    }
-
 -- the reach among a block's numbers is that of its acceleration and length
-reach-own : (l : Limits) (a : Block) → numbersOf l a .reach ≡ reachFrom (numbersOf l a .accel) (numbersOf l a .length)
+reach-own : (m : Machine) (a : Block) → numbersOf m a .reach ≡ reachFrom (numbersOf m a .accel) (numbersOf m a .length)
 unfolding numbersOf
-reach-own l a = refl
+reach-own m a = refl
 
 -- a line by its parts
-abbrev lineOf : Limits → (committed : ℕ) → List Block → Line
-lineOf l committed blocks = record { limits = l; committed = committed; blocks = blocks }
+abbrev lineOf : Machine → (committed : ℕ) → List Block → Line
+lineOf m committed blocks = record { machine = m; committed = committed; blocks = blocks }
 
 -- a ring that holds a line with a first block
-module _ {r : Ring} {l : Limits} {committed : ℕ} {a : Block} {rest : List Block} (h : Holds r (lineOf l committed (a ∷ rest))) where
+module _ {r : Ring} {m : Machine} {committed : ℕ} {a : Block} {rest : List Block} (h : Holds r (lineOf m committed (a ∷ rest))) where
   abbrev spans : List Span
-  spans = spansOf l (a ∷ rest)
+  spans = spansOf m (a ∷ rest)
 
   abbrev exit : ℕ
   exit = numberAt (planOf committed spans) 1
 
-  -- there is a first step
+  -- there is a first span
   some : 0 < length spans
-  some = omega (arith, spans-length l (a ∷ rest))
+  some = omega (arith, spans-length m (a ∷ rest))
 
   -- the exit by the backward pass after the block
   exit-is : exit ≡ exitFrom committed (reachAt spans 0) (brake (drop 1 spans))
@@ -71,30 +58,30 @@ module _ {r : Ring} {l : Limits} {committed : ℕ} {a : Block} {rest : List Bloc
   exit-right = omega (arith, h .committed, placed-reach (h .placed) 0 (omega arith), h .kept 1 (omega arith) some, exit-is)
 
   -- the plan's first two numbers are within the block's cap and reach,
-  ramped : Rampable (numbersOf l a) committed exit
+  ramped : Rampable (numbersOf m a) committed exit
   ramped =
       let lawful = plan-lawful committed spans (h .brakes) in
-      numbers-rampable l a committed exit (h .passed 0 (omega arith)) (h .entered (omega arith))
-      (omega (arith, exit-is, rest-under l a rest))
-      (omega (arith, lawful .falls 0 some, lawful .begins, spans-reach noBlock l (a ∷ rest) 0 (omega arith)))
-      (omega (arith, lawful .rises 0 some, lawful .begins, spans-reach noBlock l (a ∷ rest) 0 (omega arith)))
+      numbers-rampable m a committed exit (h .passed 0 (omega arith)) (h .entered (omega arith))
+      (omega (arith, exit-is, rest-under m a rest))
+      (omega (arith, lawful .falls 0 some, lawful .begins, spans-reach noBlock m (a ∷ rest) 0 (omega arith)))
+      (omega (arith, lawful .rises 0 some, lawful .begins, spans-reach noBlock m (a ∷ rest) 0 (omega arith)))
 
   -- so the block is given out as the line says
-  given-right : givenIn r ≡ givenOf l a (numberAt (planOf committed spans) 0) exit
-  unfolding givenIn givenOf
+  given-right : givenIn r ≡ givenOf m a (numberAt (planOf committed spans) 0) exit
+  unfolding givenIn givenOf givenBetween
   given-right =
-      (λ i. rampedOf (h .placed .block 0 (omega arith) i) (h .placed .numbers 0 (omega arith) i) (h .committed i) (exit-right i))
-      ∙ rw (plan-first committed spans (h .brakes), rampable-holds (numbersOf l a) committed exit ramped)
+      (λ i. givenBetween (h .placed .block 0 (omega arith) i) (h .placed .numbers 0 (omega arith) i) (h .committed i) (exit-right i))
+      ∙ rw (plan-first committed spans (h .brakes), rampable-holds (numbersOf m a) committed exit ramped)
 
   -- with the speeds of the line's plan, within its cap, and a ramp that is as long as the block
-  given-from : GivenFrom (lineOf l committed (a ∷ rest)) (givenOf l a (numberAt (planOf committed spans) 0) exit)
+  given-from : GivenFrom (lineOf m committed (a ∷ rest)) (givenOf m a (numberAt (planOf committed spans) 0) exit)
   unfolding givenOf numbersOf rampOf peakOf
   given-from = record {
     highest = plan-highest committed spans (h .brakes);
     entry = refl;
     exit = refl;
     capped = (omega (arith, plan-first committed spans (h .brakes), ramped .entry-capped), ramped .exit-capped, omega arith);
-    fills = rw (plan-first committed spans (h .brakes)) (ramp-fills (numbersOf l a) committed exit ramped (reach-own l a));
+    fills = rw (plan-first committed spans (h .brakes)) (ramp-fills (numbersOf m a) committed exit ramped (reach-own m a));
   }
 
   -- block k of the rest was block k + 1
@@ -103,22 +90,22 @@ module _ {r : Ring} {l : Limits} {committed : ℕ} {a : Block} {rest : List Bloc
   shifted k = ap (λ (s : ℕ). getD (r .places) s noPlace) (omega arith)
 
   -- the places after the first are the blocks of the rest,
-  taken-placed : Placed (takenFrom r) l rest
+  taken-placed : Placed (takenFrom r) m rest
   taken-placed = record {
     block = λ k g. ap blockIn (shifted k) ∙ h .placed .block (suc k) (omega arith);
     numbers = λ k g. ap numbersIn (shifted k) ∙ h .placed .numbers (suc k) (omega arith);
     junction = junction;
   }
     where
-      junction : (k : ℕ) → 0 < k → k < length rest → placeAt (takenFrom r) k .junction ≡ capAt (spansOf l rest) k
+      junction : (k : ℕ) → 0 < k → k < length rest → placeAt (takenFrom r) k .junction ≡ capAt (spansOf m rest) k
       junction zero p g = absurd (omega arith)
       junction (suc k) p g =
-          ap (λ (p : Place). p .junction) (shifted (suc k)) ∙ h .placed .junction (suc (suc k)) (omega arith) (omega arith) ∙ rest-cap l a rest k
+          ap (λ (p : Place). p .junction) (shifted (suc k)) ∙ h .placed .junction (suc (suc k)) (omega arith) (omega arith) ∙ rest-cap m a rest k
 
-  -- with the limits of the rest's backward pass,
-  taken-kept : Braked (spansOf l rest) (keptAt (takenFrom r)) 1
+  -- with the brakes of the rest's backward pass,
+  taken-kept : Braked (spansOf m rest) (keptAt (takenFrom r)) 1
   taken-kept =
-      rest-braked l a (keptAt (takenFrom r)) rest
+      rest-braked m a (keptAt (takenFrom r)) rest
       λ i p q. same i p ∙ braked-taken spans (keptAt r) 1 some (λ j s t. h .kept j (omega arith) t) i p q
     where
       same : (i : ℕ) → 0 < i → keptAt (takenFrom r) i ≡ keptAt r (i + 1)
@@ -126,11 +113,11 @@ module _ {r : Ring} {l : Limits} {committed : ℕ} {a : Block} {rest : List Bloc
       same (suc k) p = rw (add-one (suc k)) (ap (λ (p : Place). p .brake) (shifted k))
 
   -- so the ring holds the rest
-  taken-holds : Holds (takenFrom r) (lineOf l exit rest)
+  taken-holds : Holds (takenFrom r) (lineOf m exit rest)
   unfolding takenFrom
   taken-holds = record {
     limited = h .limited;
-    limits = h .limits;
+    machine = h .machine;
     committed = exit-right;
     sized = h .sized;
     room = omega (arith, h .room);
@@ -138,22 +125,22 @@ module _ {r : Ring} {l : Limits} {committed : ℕ} {a : Block} {rest : List Bloc
     passed = λ k g. h .passed (suc k) (omega arith);
     placed = taken-placed;
     kept = taken-kept;
-    brakes = rest-brakes l a exit rest (take-keeps committed spans);
-    entered = λ g. omega (arith, exit-is, rest-entered l a rest);
+    brakes = rest-brakes m a exit rest (take-keeps committed spans);
+    entered = λ g. omega (arith, exit-is, rest-entered m a rest);
   }
 
 -- A take is answered as the line says, and the ring holds the line afterwards.
 pub holds-take : {r : Ring} {line : Line} → Holds r line
     → (ringAnswer r take ≡ lineAnswer line take) × Holds (ringAfter r take) (lineAfter line take)
 unfolding ringAnswer lineAnswer ringAfter lineAfter
-holds-take {r} {line} = go (line .limits) (line .committed) (line .blocks) (r .count) refl
+holds-take {r} {line} = go (line .machine) (line .committed) (line .blocks) (r .count) refl
   where
-    go : (l : Limits) (c : ℕ) (blocks : List Block) (count : ℕ) → r .count ≡ count → Holds r (lineOf l c blocks)
-        → (takenAnswer count r ≡ takeAnswer l blocks (planOf c (spansOf l blocks))) × Holds (takenIn count r) (takeAfter l c blocks (planOf c (spansOf l blocks)))
-    go l c [] zero e h = (refl, h)
-    go l c [] (suc n) e h = absurd (omega (arith, h .counted))
-    go l c (a ∷ rest) zero e h = absurd (omega (arith, h .counted))
-    go l c (a ∷ rest) (suc n) e h = (ap gave (given-right h), taken-holds h)
+    go : (m : Machine) (c : ℕ) (blocks : List Block) (count : ℕ) → r .count ≡ count → Holds r (lineOf m c blocks)
+        → (takenAnswer count r ≡ takeAnswer m blocks (planOf c (spansOf m blocks))) × Holds (takenIn count r) (takeAfter m c blocks (planOf c (spansOf m blocks)))
+    go m c [] zero e h = (refl, h)
+    go m c [] (suc n) e h = absurd (omega (arith, h .counted))
+    go m c (a ∷ rest) zero e h = absurd (omega (arith, h .counted))
+    go m c (a ∷ rest) (suc n) e h = (ap gave (given-right h), taken-holds h)
 
 -- A block that is given out has its speeds from the line's highest lawful profile, and a ramp as long as itself.
 pub holds-given : {r : Ring} {line : Line} → Holds r line → (c : Call) (g : Given) → lineAnswer line c ≡ gave g → GivenFrom line g
@@ -163,8 +150,8 @@ holds-given {r} {line} h (add b) g e = absurd (go (addRefusal (length (line .blo
     go : (n : ℕ) → answerBy n ≡ gave g → ⊥
     go zero e = let z : _≡_ {A = ℕ} 0 1 = cc in omega arith
     go (suc n) e = let z : _≡_ {A = ℕ} 0 1 = cc in omega arith
-holds-given {r} {line} h take g e = go (line .limits) (line .committed) (line .blocks) h e
+holds-given {r} {line} h take g e = go (line .machine) (line .committed) (line .blocks) h e
   where
-    go : (l : Limits) (c : ℕ) (blocks : List Block) → Holds r (lineOf l c blocks) → takeAnswer l blocks (planOf c (spansOf l blocks)) ≡ gave g → GivenFrom (lineOf l c blocks) g
-    go l c [] h e = absurd (let z : _≡_ {A = ℕ} 0 1 = cc in omega arith)
-    go l c (a ∷ rest) h e = subst (λ (x : Given). GivenFrom (lineOf l c (a ∷ rest)) x) (let s : _ ≡ g = cc in s) (given-from h)
+    go : (m : Machine) (c : ℕ) (blocks : List Block) → Holds r (lineOf m c blocks) → takeAnswer m blocks (planOf c (spansOf m blocks)) ≡ gave g → GivenFrom (lineOf m c blocks) g
+    go m c [] h e = absurd (let z : _≡_ {A = ℕ} 0 1 = cc in omega arith)
+    go m c (a ∷ rest) h e = subst (λ (x : Given). GivenFrom (lineOf m c (a ∷ rest)) x) (let s : _ ≡ g = cc in s) (given-from h)

@@ -1,4 +1,4 @@
--- The walk back through the ring's places makes the limits right for a line with one step more, and changes nothing else.
+-- The walk back through the ring's places makes the brakes right for a line with one span more, and changes nothing else.
 -- From profile's laws of kept numbers and those of places.
 use mathlib.Core.Logic.{_≢_}
 use mathlib.Core.Bool.{Bool, true, false}
@@ -19,9 +19,9 @@ use Rattle.line.specs.Ring.{Place, Ring, slot, placeAt, withPlace, withB
 use Rattle.line.specs.Holds.{keptAt}
 use Rattle.line.proofs.Places.{place-same, place-other}
 
--- a ring of 64 places that differs from another in limits of places alone
+-- a ring of 64 places that differs from another in brakes of places alone
 pub record Walked (old new : Ring) : Type 0 where
-  pub limits : new .limits ≡ old .limits
+  pub machine : new .machine ≡ old .machine
   pub count : new .count ≡ old .count
   pub committed : new .committed ≡ old .committed
   pub sized : length (new .places) ≡ mostHeld
@@ -34,7 +34,7 @@ limited r k v = withPlace r k (withBrake (placeAt r k) v)
 module _ (r : Ring) (sized : length (r .places) ≡ mostHeld) where
   -- it does from itself
   walked-none : Walked r r
-  walked-none = record { limits = refl; count = refl; committed = refl; sized = sized; same = λ k h. refl }
+  walked-none = record { machine = refl; count = refl; committed = refl; sized = sized; same = λ k h. refl }
 
   module _ (k v : ℕ) (inside : k < mostHeld) where
     -- with a new brake there are 64 places still,
@@ -48,10 +48,10 @@ module _ (r : Ring) (sized : length (r .places) ≡ mostHeld) where
       | no d ↦ rw (place-other r sized k j (withBrake (placeAt r k) v) inside h d)
     ]
 
-    -- and a ring that differs from that one in limits differs from the old one in limits
+    -- and a ring that differs from that one in brakes differs from the old one in brakes
     walked-more : (new : Ring) → Walked (limited r k v) new → Walked r new
     walked-more new w = record {
-      limits = w .limits;
+      machine = w .machine;
       count = w .count;
       committed = w .committed;
       sized = w .sized;
@@ -66,7 +66,7 @@ module _ (r : Ring) (sized : length (r .places) ≡ mostHeld) where
     kept-other zero h d = refl
     kept-other (suc j) h d = ap (λ (p : Place). p .brake) (place-other r sized k j (withBrake (placeAt r k) v) inside h (omega arith))
 
--- the walk back changes limits of places alone
+-- the walk back changes brakes of places alone
 pub walk-walked : (k : ℕ) (r : Ring) → length (r .places) ≡ mostHeld → k ≤ mostHeld → Walked r (walkBack k r)
 unfolding walkBack
 walk-walked zero r sized h = walked-none r sized
@@ -80,7 +80,7 @@ walk-walked (suc k) r sized h =
     go false w = w
 
 module _ (line : List Span) (s : Span) (room : length line < mostHeld) where
-  -- a ring of 64 places whose caps and reaches are those of the line with one step more
+  -- a ring of 64 places whose caps and reaches are those of the line with one span more
   pub record Fitting (r : Ring) : Type 0 where
     pub sized : length (r .places) ≡ mostHeld
     pub caps : (k : ℕ) → 0 < k → k ≤ length line → placeAt r k .junction ≡ capAt (line ++ (s ∷ [])) k
@@ -114,7 +114,7 @@ module _ (line : List Span) (s : Span) (room : length line < mostHeld) where
         (kept-same r (f .sized) k (brakeAt r (suc k)) (omega arith) ∙ brake-right)
         (λ i p q d. kept-other r (f .sized) k (brakeAt r (suc k)) (omega arith) i (omega arith) d))
 
-  -- and leaves the limits that the backward pass of the longer line gives
+  -- and leaves the brakes that the backward pass of the longer line gives
   pub walk-braked : (k : ℕ) (r : Ring) → Fitting r → k ≤ length line → Extended line s (keptAt r) k → Braked (line ++ (s ∷ [])) (keptAt (walkBack k r)) 1
   unfolding walkBack next
   walk-braked zero r f h x = extended-end line s (keptAt r) 0 (omega arith) x

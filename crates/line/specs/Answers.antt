@@ -1,9 +1,13 @@
 -- What is answered, as document 01's numbers and values.
+use mathlib.Core.Bool.{cond}
+use mathlib.Core.List.{List, _∷_, []}
 use Prim.Native.Nat.{ℕ, zero, suc}
 use Rattle.display.specs.Display.{refusalNumber}
-use Rattle.machine.specs.Numbers.{numbersOf, rampOf}
+use Rattle.machine.specs.Labels.{noBlock}
+use Rattle.machine.specs.Numbers.{numbersOf, rampOf, rampable, noRamp}
 use Rattle.machine.specs.declared.Block.{Block}
-use Rattle.machine.specs.declared.Limits.{Limits}
+use Rattle.machine.specs.declared.Machine.{Machine}
+use Rattle.machine.specs.declared.Numbers.{Numbers}
 use Rattle.line.specs.declared.Given.{Given}
 use Rattle.line.specs.declared.AddAnswer.{AddAnswer}
 use Rattle.line.specs.declared.AddAnswer.the-variants as add
@@ -11,6 +15,8 @@ use Rattle.line.specs.declared.TakeAnswer.{TakeAnswer}
 use Rattle.line.specs.declared.TakeAnswer.the-variants as take
 use Rattle.line.specs.declared.ShowAnswer.{ShowAnswer}
 use Rattle.line.specs.declared.ShowAnswer.the-variants as show
+use Rattle.line.specs.declared.Answer as declared
+use Rattle.line.specs.declared.Answer.the-variants as call
 
 -- an answer: accepted, a block given out, or the number on the display
 pub data Answer : Type 0 where
@@ -41,14 +47,51 @@ abbrev pub showMeans : ShowAnswer → Answer
 showMeans show.Shown = accepted
 showMeans (show.Refused r) = refused (refusalNumber r)
 
--- a block given out with its entry and exit squared speeds; the rest is worked out from limits and block
-unfoldable pub givenOf : Limits → Block → (entry exit : ℕ) → Given
-givenOf l b entry exit =
+abbrev pub answerMeans : declared.Answer → Answer
+answerMeans call.Accepted = accepted
+answerMeans (call.Gave g) = gave g
+answerMeans (call.Refused r) = refused (refusalNumber r)
+
+-- a block given out with its entry and exit squared speeds; the rest is worked out from machine and block
+unfoldable pub givenOf : Machine → Block → (entry exit : ℕ) → Given
+givenOf m b entry exit =
     record {
       block = b;
-      length = numbersOf l b .length;
-      accel = numbersOf l b .accel;
+      length = numbersOf m b .length;
+      accel = numbersOf m b .accel;
       entry = entry;
       exit = exit;
-      ramp = rampOf (numbersOf l b) entry exit;
+      ramp = rampOf (numbersOf m b) entry exit;
     }
+
+-- the same from a block's numbers, with a ramp of zeros where no ramp can be worked out
+unfoldable pub givenBetween : Block → Numbers → (entry exit : ℕ) → Given
+givenBetween b n entry exit =
+    record {
+      block = b;
+      length = n .length;
+      accel = n .accel;
+      entry = entry;
+      exit = exit;
+      ramp = cond (rampable n entry exit) (rampOf n entry exit) noRamp;
+    }
+
+-- what stands for a block given out where there is none
+abbrev pub noGiven : Given
+noGiven = record { block = noBlock; length = 0; accel = 0; entry = 0; exit = 0; ramp = noRamp }
+
+-- the numbers of a block given out, beside its moves
+abbrev pub givenNumbers : Given → List ℕ
+givenNumbers g =
+    g .block .feed
+    ∷ g .block .radius
+    ∷ g .block .mark
+    ∷ g .length
+    ∷ g .accel
+    ∷ g .entry
+    ∷ g .exit
+    ∷ g .ramp .peak
+    ∷ g .ramp .up
+    ∷ g .ramp .cruise
+    ∷ g .ramp .down
+    ∷ []

@@ -7,16 +7,14 @@ use Rattle.profile.specs.Line.{capAt}
 use Rattle.profile.specs.Passes.{CanBrake, Braked}
 use Rattle.machine.specs.Checks.{limitsRefusal, blockRefusal}
 use Rattle.machine.specs.Numbers.{numbersOf, blockCap}
+use Rattle.machine.specs.Labels.{noBlock}
 use Rattle.machine.specs.Line.{spansOf}
 use Rattle.machine.specs.declared.Block.{Block}
-use Rattle.machine.specs.declared.Limits.{Limits}
+use Rattle.machine.specs.declared.Machine.{Machine}
 use Rattle.line.specs.Blocks.{mostHeld, Line}
 use Rattle.line.specs.Ring.{Ring, placeAt, blockIn, numbersIn}
 
--- what is read past a line's end
-abbrev pub noBlock : Block
-noBlock = blockIn (Rattle.line.specs.Ring.noPlace)
-
+-- block k of a list; past its end there is none
 abbrev pub blockAt : List Block → ℕ → Block
 blockAt blocks k = getD blocks k noBlock
 
@@ -26,22 +24,22 @@ keptAt r zero = 0
 keptAt r (suc k) = placeAt r k .brake
 
 -- the ring's places from the first on are the blocks with their numbers and junction caps
-pub record Placed (r : Ring) (l : Limits) (blocks : List Block) : Type 0 where
+pub record Placed (r : Ring) (m : Machine) (blocks : List Block) : Type 0 where
   pub block : (k : ℕ) → k < length blocks → blockIn (placeAt r k) ≡ blockAt blocks k
-  pub numbers : (k : ℕ) → k < length blocks → numbersIn (placeAt r k) ≡ numbersOf l (blockAt blocks k)
-  pub junction : (k : ℕ) → 0 < k → k < length blocks → placeAt r k .junction ≡ capAt (spansOf l blocks) k
+  pub numbers : (k : ℕ) → k < length blocks → numbersIn (placeAt r k) ≡ numbersOf m (blockAt blocks k)
+  pub junction : (k : ℕ) → 0 < k → k < length blocks → placeAt r k .junction ≡ capAt (spansOf m blocks) k
 
 -- the ring holds the line: its places are the line's blocks, the squared speeds that they keep those of the line's backward pass; the line can
 -- brake from the committed squared speed, which is within the first block's cap
 pub record Holds (r : Ring) (line : Line) : Type 0 where
-  pub limited : limitsRefusal (line .limits) ≡ 0
-  pub limits : r .limits ≡ line .limits
+  pub limited : limitsRefusal (line .machine .limits) ≡ 0
+  pub machine : r .machine ≡ line .machine
   pub committed : r .committed ≡ line .committed
   pub sized : length (r .places) ≡ mostHeld
   pub room : length (line .blocks) ≤ mostHeld
   pub counted : r .count ≡ length (line .blocks)
   pub passed : (k : ℕ) → k < length (line .blocks) → blockRefusal (blockAt (line .blocks) k) ≡ 0
-  pub placed : Placed r (line .limits) (line .blocks)
-  pub kept : Braked (spansOf (line .limits) (line .blocks)) (keptAt r) 1
-  pub brakes : CanBrake (line .committed) (spansOf (line .limits) (line .blocks))
-  pub entered : 0 < length (line .blocks) → line .committed ≤ blockCap (line .limits) (blockAt (line .blocks) 0)
+  pub placed : Placed r (line .machine) (line .blocks)
+  pub kept : Braked (spansOf (line .machine) (line .blocks)) (keptAt r) 1
+  pub brakes : CanBrake (line .committed) (spansOf (line .machine) (line .blocks))
+  pub entered : 0 < length (line .blocks) → line .committed ≤ blockCap (line .machine .limits) (blockAt (line .blocks) 0)

@@ -2,18 +2,20 @@
 -- Every content of the memory has an answer; what is read is cut to the size that the arithmetic takes.
 use mathlib.Core.List.{List, _∷_, []}
 use mathlib.Core.Bool.{true, false, cond}
-use Prim.Native.Nat.{ℕ, zero, suc, _+_, _-_, _*_, _%_, _^_, min}
+use Prim.Native.Nat.{ℕ, zero, suc, _+_, _-_, _%_, _^_, min}
 use lib.Dec.{eqb}
 use lib.ListN.{getD, set}
 use Rattle.fields.specs.Signed.{signedOf, bitsOf}
 use Rattle.profile.specs.Passes.{brakeFrom, exitFrom}
-use Rattle.machine.specs.Numbers.{numbersOf, rampOf, rampable, noRamp, turnFrom, cornerFrom, underCorner}
+use Rattle.machine.specs.Labels.{labelledBlock, labelOf}
+use Rattle.machine.specs.Numbers.{numbersOf, junctionFrom}
 use Rattle.machine.specs.declared.Axes.{Axes}
 use Rattle.machine.specs.declared.Limits.{Limits}
+use Rattle.machine.specs.declared.Machine.{Machine}
 use Rattle.machine.specs.declared.Block.{Block}
 use Rattle.machine.specs.declared.Numbers.{Numbers}
 use Rattle.line.specs.declared.Given.{Given}
-use Rattle.line.specs.Answers.{Answer, gave, refused, answerBy}
+use Rattle.line.specs.Answers.{Answer, gave, refused, answerBy, givenBetween}
 use Rattle.line.specs.Blocks.{mostHeld, Call, add, take, addRefusal}
 
 -- one place: a block, its numbers, the cap of the junction where it begins, and the greatest squared speed at its end
@@ -24,7 +26,7 @@ pub record Place : Type 0 where
   pub z : ℕ
   pub feed : ℕ
   pub radius : ℕ
-  pub mark : ℕ
+  pub label : ℕ
   pub length : ℕ
   pub accel : ℕ
   pub reach : ℕ
@@ -34,7 +36,7 @@ pub record Place : Type 0 where
 
 -- the memory of a planner
 pub record Ring : Type 0 where
-  pub limits : Limits
+  pub machine : Machine
   -- the place of the first block, how many blocks are held, the committed squared speed
   pub first : ℕ
   pub count : ℕ
@@ -42,7 +44,7 @@ pub record Ring : Type 0 where
   pub places : List Place
 
 abbrev pub noPlace : Place
-noPlace = record { x = 0; y = 0; z = 0; feed = 0; radius = 0; mark = 0; length = 0; accel = 0; reach = 0; cap = 0; junction = 0; brake = 0 }
+noPlace = record { x = 0; y = 0; z = 0; feed = 0; radius = 0; label = 0; length = 0; accel = 0; reach = 0; cap = 0; junction = 0; brake = 0 }
 
 -- the limits as they are used
 abbrev pub cutAxes : Axes → Axes
@@ -58,6 +60,9 @@ cutLimits l =
       tick = l .tick % 2 ^ 32;
     }
 
+abbrev pub cutMachine : Machine → Machine
+cutMachine m = record { limits = cutLimits (m .limits); torque = m .torque }
+
 -- block k of those held, block 0 the first
 abbrev pub slot : Ring → ℕ → ℕ
 slot r k = (r .first + k) % mostHeld
@@ -66,10 +71,10 @@ abbrev pub placeAt : Ring → ℕ → Place
 placeAt r k = getD (r .places) (slot r k) noPlace
 
 abbrev pub withPlace : Ring → ℕ → Place → Ring
-withPlace r k p = record { limits = r .limits; first = r .first; count = r .count; committed = r .committed; places = set (r .places) (slot r k) p }
+withPlace r k p = record { machine = r .machine; first = r .first; count = r .count; committed = r .committed; places = set (r .places) (slot r k) p }
 
 abbrev pub blockIn : Place → Block
-blockIn p = record { x = signedOf 21 (p .x); y = signedOf 21 (p .y); z = signedOf 21 (p .z); feed = p .feed; radius = p .radius; mark = p .mark }
+blockIn p = labelledBlock (signedOf 21 (p .x)) (signedOf 21 (p .y)) (signedOf 21 (p .z)) (p .feed) (p .radius) (p .label)
 
 abbrev pub numbersIn : Place → Numbers
 numbersIn p = record { length = p .length; accel = p .accel; reach = p .reach; cap = p .cap }
@@ -83,7 +88,7 @@ placeOf b n junction =
       z = bitsOf 21 (b .z);
       feed = b .feed;
       radius = b .radius;
-      mark = b .mark;
+      label = labelOf b;
       length = n .length;
       accel = n .accel;
       reach = n .reach;
@@ -96,15 +101,19 @@ placeOf b n junction =
 abbrev pub toldOf : Ring → ℕ
 toldOf r = min (r .count) mostHeld
 
+-- a place's numbers as a junction cap is worked out from them
+abbrev pub cutNumbers : Place → Numbers
+cutNumbers p = record { length = p .length % 2 ^ 30; accel = p .accel; reach = p .reach; cap = p .cap }
+
 -- the cap of the junction between a held block and a new one
-unfoldable pub junctionAfter : Limits → Place → Block → Numbers → ℕ
-junctionAfter l p b n =
-    let product = p .length % 2 ^ 30 * n .length in
-    underCorner (cornerFrom (l .jump) product (turnFrom product (blockIn p) b)) (min (p .cap) (n .cap))
+unfoldable pub junctionAfter : (jump : ℕ) → Place → Block → Numbers → ℕ
+junctionAfter jump p b n = junctionFrom jump (blockIn p) (cutNumbers p) b n
 
 -- the same for the block after all held ones; the first block of a line begins at junction 0, which has none
 abbrev pub newJunction : Ring → Block → ℕ
-newJunction r b = cond (eqb (r .count) 0) 0 (junctionAfter (cutLimits (r .limits)) (placeAt r (r .count - 1)) b (numbersOf (cutLimits (r .limits)) b))
+newJunction r b =
+    let m = cutMachine (r .machine) in
+    cond (eqb (r .count) 0) 0 (junctionAfter (m .limits .jump) (placeAt r (r .count - 1)) b (numbersOf m b))
 
 abbrev pub withBrake : Place → ℕ → Place
 withBrake p v =
@@ -114,7 +123,7 @@ withBrake p v =
       z = p .z;
       feed = p .feed;
       radius = p .radius;
-      mark = p .mark;
+      label = p .label;
       length = p .length;
       accel = p .accel;
       reach = p .reach;
@@ -135,9 +144,9 @@ walkBack (suc k) r = elim (eqb (placeAt r k .brake) (brakeAt r (suc k))) [ true 
 -- a block put last
 unfoldable pub putLast : Ring → Block → Ring
 putLast r b =
-    let p = placeOf b (numbersOf (cutLimits (r .limits)) b) (newJunction r b) in
+    let p = placeOf b (numbersOf (cutMachine (r .machine)) b) (newJunction r b) in
     walkBack (r .count)
-    (record { limits = r .limits; first = r .first; count = r .count + 1; committed = r .committed; places = set (r .places) (slot r (r .count)) p })
+    (record { machine = r .machine; first = r .first; count = r .count + 1; committed = r .committed; places = set (r .places) (slot r (r .count)) p })
 
 abbrev pub addedIn : ℕ → Ring → Block → Ring
 addedIn zero r b = putLast r b
@@ -148,20 +157,13 @@ unfoldable pub givenIn : Ring → Given
 givenIn r =
     let p = placeAt r 0 in
     let exit = exitFrom (r .committed) (p .reach) (p .brake) in
-    record {
-      block = blockIn p;
-      length = p .length;
-      accel = p .accel;
-      entry = r .committed;
-      exit = exit;
-      ramp = cond (rampable (numbersIn p) (r .committed) exit) (rampOf (numbersIn p) (r .committed) exit) noRamp;
-    }
+    givenBetween (blockIn p) (numbersIn p) (r .committed) exit
 
 -- what is held after that
 unfoldable pub takenFrom : Ring → Ring
 takenFrom r =
     record {
-      limits = r .limits;
+      machine = r .machine;
       first = (r .first + 1) % mostHeld;
       count = r .count - 1;
       committed = exitFrom (r .committed) (placeAt r 0 .reach) (placeAt r 0 .brake);
@@ -207,5 +209,5 @@ ringAfterAll r [] = r
 ringAfterAll r (c ∷ calls) = ringAfterAll (ringAfter r c) calls
 
 -- a fresh planner: its places hold whatever they held
-abbrev pub freshRing : Limits → List Place → Ring
-freshRing l places = record { limits = l; first = 0; count = 0; committed = 0; places = places }
+abbrev pub freshRing : Machine → List Place → Ring
+freshRing m places = record { machine = m; first = 0; count = 0; committed = 0; places = places }

@@ -3,6 +3,8 @@ use display::Refusal;
 use machine::Block;
 use machine::Ramp;
 
+pub mod lists;
+
 // A block given out.
 pub struct Given {
     pub block: Block,
@@ -31,5 +33,18 @@ pub enum TakeAnswer {
 // The answer of a request to show the plan.
 pub enum ShowAnswer {
     Shown,
+    Refused(Refusal),
+}
+
+// A call of a planner: an add with its block, or a take.
+pub enum Call {
+    Add(Block),
+    Take,
+}
+
+// The answer of a call: that of an add or of a take.
+pub enum Answer {
+    Accepted,
+    Gave(Given),
     Refused(Refusal),
 }

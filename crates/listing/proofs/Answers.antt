@@ -1,5 +1,5 @@
 -- Which text any bytes get by the answer of planning them, and what is kept of them. From the laws of a tape's faults.
-use mathlib.Core.Path.{_≡_, refl, sym, ap, _∙_}
+use mathlib.Core.Path.{_≡_, refl, sym, ap, subst, _∙_}
 use mathlib.Core.List.{List, _++_, []}
 use Prim.Native.Nat.{ℕ, zero, suc, _+_, _<_, min}
 use native.Mathlib.Omega.{arith}
@@ -7,20 +7,21 @@ use borrow.Author.Tests.{eq-eqb}
 use lib.ListN.{length, take, drop, take-append-drop, length-replicate}
 use lib.Seq.{length-take-le}
 use mathlib.Core.Bool.{cond}
-use Rattle.display.specs.Display.{refusalNumber, _at_, byNumber}
+use Rattle.display.specs.Display.{refusalNumber, Fault, _at_, byNumber}
 use Rattle.display.proofs.Answers.{refusal-above, at-zero, above-zero}
-use Rattle.tape.specs.Answers.{tapeFault, tapePlace, tapeRefusal}
+use Rattle.tape.specs.Answers.{mostBlocks, tapeFault, tapePlace, tapeRefusal}
 use Rattle.display.specs.declared.Refusal.{Refusal}
 use Rattle.text.specs.Text.{refusedAt}
 use Rattle.text.specs.Store.{put}
 use Rattle.text.proofs.Store.{put-none}
 use Rattle.tape.specs.Tape.{recordsIn}
 use Rattle.tape.proofs.Faults.{tape-faultless, tape-passed}
-use Rattle.tapeplan.specs.Planned.{PlannedTape, planFault}
+use Rattle.tapeplan.specs.Planned.{MeasuredTape, planFault, tapeMachine, tapePlan}
+use Rattle.tapeplan.specs.Sheet.{SheetAfter}
+use Rattle.tapeplan.proofs.Plans.{accepted-junctions, accepted-records}
 use Rattle.tapeplan.specs.declared.TapePlanned.{TapePlanned}
-use Rattle.listing.specs.Listing.{acceptedText, listingOf, tapePlan}
-use Rattle.listing.specs.Parts.{ListingFrom, mostBlocks, mostJunctions, noPlan}
-use Rattle.listing.proofs.Plans.{accepted-junctions, accepted-records}
+use Rattle.listing.specs.Listing.{acceptedText, listingOf}
+use Rattle.listing.specs.Parts.{ListingFrom, mostJunctions, noPlan}
 
 module _ (s : List ℕ) where
   -- of a tape without a fault, and of one with a fault
@@ -67,18 +68,21 @@ module _ (s : List ℕ) where
           ap (λ (t : List ℕ). t ++ drop lent zeros) (e ∙ above-zero (tapePlan s) (take lent zeros) above)
           ∙ take-append-drop lent zeros ∙ sym (put-none zeros 0) ∙ sym (ap (put zeros 0) (above-zero (tapePlan s) [] above))
 
-  -- what is kept of the tape, with n numbers lent
-  module _ {n : ℕ} (count : n ≡ lent) where
-    pub lent-length : length (take n noPlan) ≡ n
-    lent-length = length-take-le n noPlan (omega (arith, length-replicate {A = ℕ} mostJunctions 0))
+  -- what is kept of the tape, with n blocks and a number for each junction lent
+  module _ {n : ℕ} (count : n ≡ min (recordsIn s) mostBlocks) where
+    pub lent-length : length (take (n + 1) noPlan) ≡ n + 1
+    lent-length = length-take-le (n + 1) noPlan (omega (arith, length-replicate {A = ℕ} mostJunctions 0))
 
-    pub listing-from : {answer : TapePlanned} {planned : List ℕ} → PlannedTape s (take n noPlan) planned answer
-        → ListingFrom s (record { answer = answer; plan = planned ++ drop n noPlan })
-    listing-from {planned} r =
-        let same : planFault s (length (take n noPlan)) ≡ tapeFault s = ap (planFault s) (lent-length ∙ count) ∙ fault-same in
+    pub listing-from : {answer : TapePlanned} {before after planned : List ℕ} → MeasuredTape s before after (take (n + 1) noPlan) planned answer
+        → ListingFrom s before after (record { answer = answer; blocks = n; plan = planned ++ drop (n + 1) noPlan })
+    listing-from {before} {after} {planned} r =
+        let junctions : n + 1 ≡ lent = omega arith in
+        let same : planFault s (length (take (n + 1) noPlan)) ≡ tapeFault s = ap (planFault s) (lent-length ∙ junctions) ∙ fault-same in
         record {
-          fault = r .fault ∙ same;
+          fault = r .planned .fault ∙ same;
+          blocks = count;
           plan =
-              ap (λ (m : ℕ). planned ++ drop m noPlan) count
-              ∙ plan-among noPlan (r .list ∙ (λ i. byNumber (same i .number) (tapePlan s) (take (count i) noPlan)));
+              ap (λ (m : ℕ). planned ++ drop m noPlan) junctions
+              ∙ plan-among noPlan (r .planned .list ∙ (λ i. byNumber (same i .number) (tapePlan s) (take (junctions i) noPlan)));
+          sheet-after = subst (λ (f : Fault). SheetAfter (tapeMachine s) s (f .number) before after) same (r .sheet-after);
         }

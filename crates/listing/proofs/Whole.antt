@@ -8,48 +8,47 @@ use native.Mathlib.Nat.{add-zero, zero-add}
 use native.Mathlib.Omega.{arith}
 use lib.ListN.{length, drop, length-append, List·getD-append}
 use Rattle.profile.specs.Line.{numberAt}
-use Rattle.display.specs.Display.{refusalNumber, Outcome, Fault}
-use Rattle.tape.specs.Answers.{tapeRefusal}
+use Rattle.display.specs.Display.{refusalNumber, Fault}
+use Rattle.tape.specs.Answers.{mostBlocks, tapeRefusal}
 use Rattle.display.proofs.Answers.{at-zero}
-use Rattle.tapeplan.specs.Planned.{plannedMeans}
-use Rattle.machine.specs.declared.Limits.{Limits}
+use Rattle.tapeplan.specs.Planned.{plannedMeans, tapePlan}
+use Rattle.tapeplan.proofs.Plans.{accepted-junctions, accepted-records}
 use Rattle.display.specs.declared.Refusal.{Refusal}
 use Rattle.text.specs.Text.{header, refusedAt, refusedWords}
 use Rattle.text.specs.Store.{put}
 use Rattle.text.proofs.Lines.{length-line}
-use Rattle.tape.specs.Tape.{recordsIn, tapeLimits}
+use Rattle.tape.specs.Tape.{recordsIn}
 use Rattle.tapeplan.specs.declared.TapePlanned.{TapePlanned}
 use Rattle.tapeplan.specs.declared.TapePlanned.the-variants.{Planned, Refused}
-use Rattle.listing.specs.Listing.{listingOf, tapePlan}
-use Rattle.listing.specs.Parts.{ListingFrom, answerPart, headIn, limitsPart, mostBlocks, mostParts, noPlan, onlyFirst, partBlocks, partLines, partOf, partsOf, plannedPart, recordLines}
+use Rattle.listing.specs.Listing.{listingOf}
+use Rattle.listing.specs.Parts.{ListingFrom, answerPart, headIn, mostParts, noPlan, onlyFirst, partBlocks, partLines, partOf, partsOf, plannedPart, rowLines}
 use Rattle.listing.specs.declared.Listing.{Listing}
-use Rattle.listing.proofs.Plans.{accepted-junctions, accepted-limits, accepted-records}
 use Rattle.listing.proofs.Lines.{linesFrom, lines-accepted, lines-beyond, lines-both, lines-some}
 use Rattle.listing.proofs.Answers.{listing-accepted, listing-refused}
 use Rattle.listing.proofs.Lengths.{header-length}
 
 -- some parts and more of them
-parts-both : (listing : Listing) (s : List ℕ) (p n m : ℕ) → partsOf listing s p (n + m) ≡ partsOf listing s p n ++ partsOf listing s (p + n) m
+parts-both : (listing : Listing) (sheet : List ℕ) (p n m : ℕ) → partsOf listing sheet p (n + m) ≡ partsOf listing sheet p n ++ partsOf listing sheet (p + n) m
 unfolding partsOf
-parts-both listing s p zero m = rw (zero-add m, add-zero p)
-parts-both listing s p (suc n) m =
+parts-both listing sheet p zero m = rw (zero-add m, add-zero p)
+parts-both listing sheet p (suc n) m =
     let more : suc n + m ≡ suc (n + m) = omega arith in
     let next : suc p + n ≡ p + suc n = omega arith in
     rw more (
-    ap (λ (t : List ℕ). partOf listing s p ++ t) (parts-both listing s (suc p) n m ∙ ap (λ (j : ℕ). partsOf listing s (suc p) n ++ partsOf listing s j m) next)
-    ∙ sym (append-assoc (partOf listing s p) (partsOf listing s (suc p) n) (partsOf listing s (p + suc n) m))
+    ap (λ (t : List ℕ). partOf listing sheet p ++ t) (parts-both listing sheet (suc p) n m ∙ ap (λ (j : ℕ). partsOf listing sheet (suc p) n ++ partsOf listing sheet j m) next)
+    ∙ sym (append-assoc (partOf listing sheet p) (partsOf listing sheet (suc p) n) (partsOf listing sheet (p + suc n) m))
     )
 
 -- parts that are all empty
-parts-none : (listing : Listing) (s : List ℕ) (p n : ℕ) → ((j : ℕ) → p ≤ j → partOf listing s j ≡ []) → partsOf listing s p n ≡ []
+parts-none : (listing : Listing) (sheet : List ℕ) (p n : ℕ) → ((j : ℕ) → p ≤ j → partOf listing sheet j ≡ []) → partsOf listing sheet p n ≡ []
 unfolding partsOf
-parts-none listing s p zero h = refl
-parts-none listing s p (suc n) h = λ i. h p (omega arith) i ++ parts-none listing s (suc p) n (λ j l. h j (omega arith)) i
+parts-none listing sheet p zero h = refl
+parts-none listing sheet p (suc n) h = λ i. h p (omega arith) i ++ parts-none listing sheet (suc p) n (λ j l. h j (omega arith)) i
 
-module _ (s : List ℕ) (listing : Listing) (from : ListingFrom s listing) where
-  -- the lines of n records from record k on
+module _ (s before sheet : List ℕ) (listing : Listing) (from : ListingFrom s before sheet listing) where
+  -- the lines of n blocks from block k on
   abbrev lines : (k n : ℕ) → List ℕ
-  lines k n = recordLines (tapeLimits s) s (listing .plan) k n
+  lines k n = rowLines (listing .blocks) sheet (listing .plan) k n
 
   -- a tape that was planned
   module _ (is : listing .answer ≡ Planned) where
@@ -62,15 +61,16 @@ module _ (s : List ℕ) (listing : Listing) (from : ListingFrom s listing) where
         ap (λ (t : List ℕ). numberAt t k) (from .plan ∙ ap (put noPlan 0) (at-zero (tapePlan s) [] passed))
         ∙ List·getD-append (tapePlan s) (drop (0 + length (tapePlan s)) noPlan) 0 k (omega (arith, accepted-junctions s passed))
 
-    part-is : (p : ℕ) → partOf listing s p ≡ headIn p ++ lines (partBlocks * p) (partLines p)
+    count : listing .blocks ≡ recordsIn s
+    count = omega (arith, from .blocks, accepted-records s passed)
+
+    part-is : (p : ℕ) → partOf listing sheet p ≡ headIn p ++ lines (partBlocks * p) (partLines p)
     unfolding plannedPart
-    part-is p =
-        ap (λ (a : TapePlanned). answerPart a s (listing .plan) p) is
-        ∙ ap (λ (a : Outcome ℕ Limits). limitsPart a s (listing .plan) p) (accepted-limits s passed)
+    part-is p = ap (λ (a : TapePlanned). answerPart a listing sheet p) is
 
     -- the lines of the parts behind part 0
-    parts-behind : (p n : ℕ) → suc p + n ≤ mostParts → partsOf listing s (suc p) n ≡ lines (partBlocks * suc p) (partBlocks * n)
-    unfolding partsOf recordLines
+    parts-behind : (p n : ℕ) → suc p + n ≤ mostParts → partsOf listing sheet (suc p) n ≡ lines (partBlocks * suc p) (partBlocks * n)
+    unfolding partsOf rowLines
     parts-behind p zero h = refl
     parts-behind p (suc n) h =
         let size : partLines (suc p) ≡ partBlocks = omega arith in
@@ -79,34 +79,34 @@ module _ (s : List ℕ) (listing : Listing) (from : ListingFrom s listing) where
         (λ i.
         (part-is (suc p) ∙ ap (lines (partBlocks * suc p)) size) i
         ++ (parts-behind (suc p) n (omega arith) ∙ ap (λ (k : ℕ). lines k (partBlocks * n)) next) i)
-        ∙ sym (lines-both (tapeLimits s) s (listing .plan) (partBlocks * suc p) partBlocks (partBlocks * n))
+        ∙ sym (lines-both (listing .blocks) sheet (listing .plan) (partBlocks * suc p) partBlocks (partBlocks * n))
         ∙ ap (lines (partBlocks * suc p)) count
 
-    -- all lines of the tape's records are the tape's lines
+    -- all lines of the rows are the tape's lines
     lines-all : lines 0 mostBlocks ≡ linesFrom s 0
     lines-all =
         let size : mostBlocks ≡ recordsIn s + (mostBlocks - recordsIn s) = omega (arith, accepted-records s passed) in
         ap (lines 0) size
-        ∙ lines-both (tapeLimits s) s (listing .plan) 0 (recordsIn s) (mostBlocks - recordsIn s)
+        ∙ lines-both (listing .blocks) sheet (listing .plan) 0 (recordsIn s) (mostBlocks - recordsIn s)
         ∙ (λ i.
-        lines-accepted s (listing .plan) passed plan-same 0 (recordsIn s) (zero-add (recordsIn s)) i
-        ++ lines-beyond (tapeLimits s) s (listing .plan) (0 + recordsIn s) (mostBlocks - recordsIn s) (omega arith) i)
+        lines-accepted s sheet (listing .plan) passed count (from .sheet-after .rows passed) plan-same 0 (recordsIn s) (zero-add (recordsIn s)) i
+        ++ lines-beyond (listing .blocks) sheet (listing .plan) (0 + recordsIn s) (mostBlocks - recordsIn s) (omega (arith, count)) i)
         ∙ append-nil (linesFrom s 0)
 
-    parts-planned : partsOf listing s 0 mostParts ≡ listingOf s
+    parts-planned : partsOf listing sheet 0 mostParts ≡ listingOf s
     unfolding partsOf
     parts-planned =
         (λ i. part-is 0 i ++ parts-behind 0 (mostParts - 1) (omega arith) i)
         ∙ append-assoc header (lines 0 partBlocks) (lines partBlocks (partBlocks * (mostParts - 1)))
-        ∙ ap (λ (t : List ℕ). header ++ t) (sym (lines-both (tapeLimits s) s (listing .plan) 0 partBlocks (partBlocks * (mostParts - 1))) ∙ lines-all)
+        ∙ ap (λ (t : List ℕ). header ++ t) (sym (lines-both (listing .blocks) sheet (listing .plan) 0 partBlocks (partBlocks * (mostParts - 1))) ∙ lines-all)
         ∙ sym (listing-accepted s passed)
 
     -- behind an empty part there is none
-    end-planned : (p : ℕ) → partOf listing s p ≡ [] → (j : ℕ) → p ≤ j → partOf listing s j ≡ []
+    end-planned : (p : ℕ) → partOf listing sheet p ≡ [] → (j : ℕ) → p ≤ j → partOf listing sheet j ≡ []
     end-planned zero e j h =
         absurd (omega (arith, ap length (sym (part-is 0) ∙ e), length-append header (lines 0 partBlocks), header-length))
     end-planned (suc p) e zero h = absurd (omega arith)
-    end-planned (suc p) e (suc j) h = part-is (suc j) ∙ lines-beyond (tapeLimits s) s (listing .plan) (partBlocks * suc j) (partLines (suc j)) (omega (arith, listed))
+    end-planned (suc p) e (suc j) h = part-is (suc j) ∙ lines-beyond (listing .blocks) sheet (listing .plan) (partBlocks * suc j) (partLines (suc j)) (omega (arith, listed, count))
       where
         go : Dec (partBlocks * suc p < recordsIn s) → recordsIn s ≤ partBlocks * suc p
         go (no g) = omega arith
@@ -116,7 +116,7 @@ module _ (s : List ℕ) (listing : Listing) (from : ListingFrom s listing) where
               arith,
               ap length (sym (part-is (suc p)) ∙ e),
               ap (λ (n : ℕ). length (lines (partBlocks * suc p) n)) size,
-              lines-some s (listing .plan) passed plan-same (partBlocks * suc p) (partBlocks - 1) g,
+              lines-some s sheet (listing .plan) passed count (from .sheet-after .rows passed) plan-same (partBlocks * suc p) (partBlocks - 1) g,
             ))
 
         listed : recordsIn s ≤ partBlocks * suc p
@@ -124,47 +124,47 @@ module _ (s : List ℕ) (listing : Listing) (from : ListingFrom s listing) where
 
   -- a tape that was refused
   module _ (why : Refusal) (place : ℕ) (is : listing .answer ≡ Refused why place) where
-    line-is : (p : ℕ) → partOf listing s p ≡ onlyFirst p (refusedAt (refusalNumber why) place)
-    line-is p = ap (λ (a : TapePlanned). answerPart a s (listing .plan) p) is
+    line-is : (p : ℕ) → partOf listing sheet p ≡ onlyFirst p (refusedAt (refusalNumber why) place)
+    line-is p = ap (λ (a : TapePlanned). answerPart a listing sheet p) is
 
-    end-refused : (p : ℕ) → partOf listing s p ≡ [] → (j : ℕ) → p ≤ j → partOf listing s j ≡ []
+    end-refused : (p : ℕ) → partOf listing sheet p ≡ [] → (j : ℕ) → p ≤ j → partOf listing sheet j ≡ []
     end-refused zero e j h = absurd (omega (arith, ap length (sym (line-is 0) ∙ e), length-line (refusedWords (refusalNumber why)) (place ∷ [])))
     end-refused (suc p) e zero h = absurd (omega arith)
     end-refused (suc p) e (suc j) h = line-is (suc j)
 
-    parts-refused : partsOf listing s 0 mostParts ≡ listingOf s
+    parts-refused : partsOf listing sheet 0 mostParts ≡ listingOf s
     unfolding partsOf
     parts-refused =
-        (λ i. line-is 0 i ++ parts-none listing s 1 (mostParts - 1) behind i)
+        (λ i. line-is 0 i ++ parts-none listing sheet 1 (mostParts - 1) behind i)
         ∙ append-nil (refusedAt (refusalNumber why) place) ∙ sym (listing-refused s why place (sym (ap plannedMeans is) ∙ from .fault))
       where
-        behind : (j : ℕ) → 1 ≤ j → partOf listing s j ≡ []
+        behind : (j : ℕ) → 1 ≤ j → partOf listing sheet j ≡ []
         behind zero h = absurd (omega arith)
         behind (suc j) h = line-is (suc j)
 
   -- All 16 parts of a listing, joined, are the listing of the tape that it was made from; behind an empty part every part is empty.
-  pub parts-whole : partsOf listing s 0 mostParts ≡ listingOf s
+  pub parts-whole : partsOf listing sheet 0 mostParts ≡ listingOf s
   parts-whole = by (listing .answer) refl
     where
-      by : (a : TapePlanned) → listing .answer ≡ a → partsOf listing s 0 mostParts ≡ listingOf s
+      by : (a : TapePlanned) → listing .answer ≡ a → partsOf listing sheet 0 mostParts ≡ listingOf s
       by Planned is = parts-planned is
       by (Refused why place) is = parts-refused why place is
 
-  pub parts-end : (p : ℕ) → partOf listing s p ≡ [] → (j : ℕ) → p ≤ j → partOf listing s j ≡ []
+  pub parts-end : (p : ℕ) → partOf listing sheet p ≡ [] → (j : ℕ) → p ≤ j → partOf listing sheet j ≡ []
   parts-end p e = by (listing .answer) refl
     where
-      by : (a : TapePlanned) → listing .answer ≡ a → (j : ℕ) → p ≤ j → partOf listing s j ≡ []
+      by : (a : TapePlanned) → listing .answer ≡ a → (j : ℕ) → p ≤ j → partOf listing sheet j ≡ []
       by Planned is = end-planned is p e
       by (Refused why place) is = end-refused why place is p e
 
   -- So what is written part after part, until a part is empty or 16 are written, is the whole listing.
-  pub listing-written : (n : ℕ) → n ≤ mostParts → (n < mostParts → partOf listing s n ≡ []) → partsOf listing s 0 n ≡ listingOf s
+  pub listing-written : (n : ℕ) → n ≤ mostParts → (n < mostParts → partOf listing sheet n ≡ []) → partsOf listing sheet 0 n ≡ listingOf s
   unfolding partsOf
   listing-written n h e =
       let all : mostParts ≡ n + (mostParts - n) = omega arith in
-      sym (append-nil (partsOf listing s 0 n)) ∙ sym (ap (λ (t : List ℕ). partsOf listing s 0 n ++ t) (rest (mostParts - n) refl))
-      ∙ sym (ap (partsOf listing s 0) all ∙ parts-both listing s 0 n (mostParts - n)) ∙ parts-whole
+      sym (append-nil (partsOf listing sheet 0 n)) ∙ sym (ap (λ (t : List ℕ). partsOf listing sheet 0 n ++ t) (rest (mostParts - n) refl))
+      ∙ sym (ap (partsOf listing sheet 0) all ∙ parts-both listing sheet 0 n (mostParts - n)) ∙ parts-whole
     where
-      rest : (m : ℕ) → mostParts - n ≡ m → partsOf listing s (0 + n) m ≡ []
+      rest : (m : ℕ) → mostParts - n ≡ m → partsOf listing sheet (0 + n) m ≡ []
       rest zero z = refl
-      rest (suc m) z = parts-none listing s (0 + n) (suc m) (λ j l. parts-end n (e (omega arith)) j (omega arith))
+      rest (suc m) z = parts-none listing sheet (0 + n) (suc m) (λ j l. parts-end n (e (omega arith)) j (omega arith))

@@ -25,14 +25,17 @@ listedOf g =
 unfoldable pub givenText : Given → List ℕ
 givenText g = row (listedOf g)
 
--- most bytes of such a line
+-- most bytes of a row of n numbers of 64 bits, and of such a line
+abbrev pub mostRow : (n : ℕ) → ℕ
+mostRow n = 21 * n + 1
+
 abbrev pub mostGiven : ℕ
-mostGiven = 190
+mostGiven = mostRow 9
 
 -- a row is stored whole where it has room, else not at all; numbers of 64 bits make no longer one
 pub record PutRow (s : List ℕ) (at : ℕ) (numbers : List ℕ) (answer : Put) (after : List ℕ) : Type 0 where
   pub answered : Answered s at (row numbers) answer after
-  pub short : length (row numbers) ≤ 21 * length numbers + 1
+  pub short : length (row numbers) ≤ mostRow (length numbers)
 
 -- the line is stored whole where it has room, else not at all
 pub record PutGiven (s : List ℕ) (at : ℕ) (g : Given) (answer : Put) (after : List ℕ) : Type 0 where

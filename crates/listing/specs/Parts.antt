@@ -1,68 +1,58 @@
--- A tape's listing in parts: what is kept of the tape, and the text of each part, for every bytes and whatever is kept.
+-- A tape's listing in parts: what is kept of the tape, and the text of each part, whatever is kept.
 use mathlib.Core.Path.{_≡_}
 use mathlib.Core.Bool.{cond}
-use mathlib.Core.List.{List, _++_, []}
-use Prim.Native.Nat.{ℕ, zero, suc, _+_, _-_, _*_, min}
-use lib.ListN.{drop, replicate}
+use mathlib.Core.List.{List, [], _++_}
+use Prim.Native.Nat.{ℕ, zero, suc, _+_, _-_, _*_, _/_, _<_, min}
+use lib.Dec.{ltb}
+use lib.IntN.{pos}
+use lib.ListN.{replicate}
 use Rattle.profile.specs.Line.{numberAt}
-use Rattle.display.specs.Display.{refusalNumber, Outcome, given, refused, byNumber}
-use Rattle.tape.specs.Answers.{readLimits, readRecord, tapeFault, tapeRefusal}
-use Rattle.tapeplan.specs.Planned.{plannedMeans}
-use Rattle.machine.specs.Numbers.{numbersOf, rampOf, rampable, noRamp}
+use Rattle.display.specs.Display.{refusalNumber, byNumber}
+use Rattle.tape.specs.Tape.{recordsIn}
+use Rattle.tape.specs.Answers.{mostBlocks, tapeFault, tapeRefusal}
+use Rattle.tapeplan.specs.Planned.{plannedMeans, tapeMachine, tapePlan}
+use Rattle.tapeplan.specs.Sheet.{SheetAfter, measuredAt}
+use Rattle.machine.specs.Labels.{plainBlock}
 use Rattle.machine.specs.declared.Block.{Block}
-use Rattle.machine.specs.declared.Limits.{Limits}
-use Rattle.line.specs.declared.Given.{Given}
+use Rattle.line.specs.Answers.{givenBetween}
 use Rattle.text.specs.Text.{header, refusedAt}
 use Rattle.text.specs.Store.{put}
-use Rattle.listing.specs.Given.{givenText}
-use Rattle.tape.specs.Tape.{recordStart}
+use Rattle.listing.specs.Given.{givenText, mostGiven}
 use Rattle.tapeplan.specs.declared.TapePlanned.{TapePlanned}
 use Rattle.tapeplan.specs.declared.TapePlanned.the-variants.{Planned, Refused}
-use Rattle.listing.specs.Listing.{tapePlan}
 use Rattle.listing.specs.declared.Listing.{Listing}
 
--- blocks and junctions of the longest tape, lines of a part at most, and parts of the longest listing
-abbrev pub mostBlocks : ℕ
-mostBlocks = 2048
-
+-- junctions of the longest tape
 abbrev pub mostJunctions : ℕ
-mostJunctions = 2049
+mostJunctions = mostBlocks + 1
 
+-- lines of a part at most, and parts of the longest listing
 abbrev pub partBlocks : ℕ
 partBlocks = 128
 
 abbrev pub mostParts : ℕ
-mostParts = 16
+mostParts = mostBlocks / partBlocks
 
--- bytes of the header, and of the text that is lent: 128 lines of at most 190 more
+-- bytes of the header, and of the text that is lent: as many longest lines more as a part has
 abbrev pub headerSize : ℕ
 headerSize = 49
 
 abbrev pub partSize : ℕ
-partSize = 24_369
+partSize = headerSize + partBlocks * mostGiven
 
--- a block between two squared speeds, with a ramp of zeros where no plan has them
-unfoldable pub betweenOf : Limits → Block → (entry exit : ℕ) → Given
-betweenOf l b entry exit =
-    record {
-      block = b;
-      length = numbersOf l b .length;
-      accel = numbersOf l b .accel;
-      entry = entry;
-      exit = exit;
-      ramp = cond (rampable (numbersOf l b) entry exit) (rampOf (numbersOf l b) entry exit) noRamp;
-    }
+-- a block of which only the mark is known, as a line shows no more of it
+abbrev pub marked : (mark : ℕ) → Block
+marked mark = plainBlock (pos 0) (pos 0) (pos 0) 0 0 mark
 
--- the line of a record between two squared speeds; none where it is refused
-unfoldable pub recordLine : Limits → Outcome ℕ Block → (entry exit : ℕ) → List ℕ
-recordLine l (given b) entry exit = givenText (betweenOf l b entry exit)
-recordLine l (refused n) entry exit = []
+-- the line of row k of a sheet, between the plan's numbers at the block's two ends
+abbrev pub lineOf : (sheet plan : List ℕ) (k : ℕ) → List ℕ
+lineOf sheet plan k =
+    givenText (givenBetween (marked (measuredAt sheet k .mark)) (measuredAt sheet k .numbers) (numberAt plan k) (numberAt plan (k + 1)))
 
--- the lines of n records from record k on, each between the plan's numbers at its two ends; a record that is not there is refused by 9, and has none
-unfoldable pub recordLines : Limits → (s plan : List ℕ) (k n : ℕ) → List ℕ
-recordLines l s plan k zero = []
-recordLines l s plan k (suc n) =
-    recordLine l (readRecord (drop (recordStart k) s)) (numberAt plan k) (numberAt plan (k + 1)) ++ recordLines l s plan (suc k) n
+-- the lines of n rows from row k on; there is none behind the last of the blocks
+unfoldable pub rowLines : (blocks : ℕ) (sheet plan : List ℕ) (k n : ℕ) → List ℕ
+rowLines blocks sheet plan k zero = []
+rowLines blocks sheet plan k (suc n) = cond (ltb k blocks) (lineOf sheet plan k) [] ++ rowLines blocks sheet plan (suc k) n
 
 -- what stands in part 0 only
 abbrev pub onlyFirst : (p : ℕ) → List ℕ → List ℕ
@@ -73,36 +63,35 @@ onlyFirst (suc p) text = []
 abbrev pub headIn : (p : ℕ) → List ℕ
 headIn p = onlyFirst p header
 
--- how many records part p may list: 128, to the 2,048th of all
+-- how many rows part p may list, to the last of the longest tape
 abbrev pub partLines : (p : ℕ) → ℕ
 partLines p = min partBlocks (mostBlocks - partBlocks * p)
 
--- part p of a tape that was planned, by its limits; none where these are refused
-abbrev pub limitsPart : Outcome ℕ Limits → (s plan : List ℕ) (p : ℕ) → List ℕ
-limitsPart (given l) s plan p = headIn p ++ recordLines l s plan (partBlocks * p) (partLines p)
-limitsPart (refused n) s plan p = []
-
-unfoldable pub plannedPart : (s plan : List ℕ) (p : ℕ) → List ℕ
-plannedPart s plan p = limitsPart (readLimits s) s plan p
+-- part p of a tape that was planned
+unfoldable pub plannedPart : (blocks : ℕ) (sheet plan : List ℕ) (p : ℕ) → List ℕ
+plannedPart blocks sheet plan p = headIn p ++ rowLines blocks sheet plan (partBlocks * p) (partLines p)
 
 -- part p of any listing: of a refused tape only the refusal's line, in part 0
-abbrev pub answerPart : TapePlanned → (s plan : List ℕ) (p : ℕ) → List ℕ
-answerPart Planned s plan p = plannedPart s plan p
-answerPart (Refused why place) s plan p = onlyFirst p (refusedAt (refusalNumber why) place)
+abbrev pub answerPart : TapePlanned → Listing → (sheet : List ℕ) (p : ℕ) → List ℕ
+answerPart Planned listing sheet p = plannedPart (listing .blocks) sheet (listing .plan) p
+answerPart (Refused why place) listing sheet p = onlyFirst p (refusedAt (refusalNumber why) place)
 
-abbrev pub partOf : Listing → (s : List ℕ) (p : ℕ) → List ℕ
-partOf listing s p = answerPart (listing .answer) s (listing .plan) p
+abbrev pub partOf : Listing → (sheet : List ℕ) (p : ℕ) → List ℕ
+partOf listing sheet p = answerPart (listing .answer) listing sheet p
 
 -- n parts from part p on, one behind the other
-unfoldable pub partsOf : Listing → (s : List ℕ) (p n : ℕ) → List ℕ
-partsOf listing s p zero = []
-partsOf listing s p (suc n) = partOf listing s p ++ partsOf listing s (suc p) n
+unfoldable pub partsOf : Listing → (sheet : List ℕ) (p n : ℕ) → List ℕ
+partsOf listing sheet p zero = []
+partsOf listing sheet p (suc n) = partOf listing sheet p ++ partsOf listing sheet (suc p) n
 
 -- the numbers that a plan is made in: zeros, one for each junction of the longest tape
 abbrev pub noPlan : List ℕ
 noPlan = replicate mostJunctions 0
 
--- what is kept of a tape: the answer of planning it, and its plan with zeros behind it; only zeros where it is refused
-pub record ListingFrom (s : List ℕ) (listing : Listing) : Type 0 where
+-- what is kept of a tape: the answer of planning it, the number of its blocks, its plan with zeros behind it, or only zeros where it is refused, and the
+-- lent sheet before and after
+pub record ListingFrom (s before after : List ℕ) (listing : Listing) : Type 0 where
   pub fault : plannedMeans (listing .answer) ≡ tapeFault s
+  pub blocks : listing .blocks ≡ min (recordsIn s) mostBlocks
   pub plan : listing .plan ≡ put noPlan 0 (byNumber (tapeRefusal s) (tapePlan s) [])
+  pub sheet-after : SheetAfter (tapeMachine s) s (tapeRefusal s) before after

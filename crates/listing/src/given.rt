@@ -7,6 +7,9 @@ use text::Put;
 use text::behind;
 use text::put_row;
 
+// Most bytes of such a line: nine numbers of 64 bits, 21 for each and one more.
+pub const LINE: usize = 21 * 9 + 1;
+
 // Stores a row, and says how long it is at most: 21 bytes a number, and one.
 fn put_numbers(out: &mut [u8], at: usize, numbers: &[u64]) -> Put
     ensures { λ r. ⌜ PutRow (now (out .entry)) at (now (numbers .entry)) r (now (out .exit)) ⌝ }

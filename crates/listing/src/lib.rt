@@ -1,46 +1,41 @@
 // The listing of a whole tape as document 01 words it, for every bytes: a header and one line for each block, or the one
 // line of the refusal. A tape is planned once, and its text comes in parts, each stored in bytes that the caller lends.
+pub mod given;
+
 ghost use mathlib.Core.Path.{_≡_};
-ghost use Prim.Native.Nat.{_+_, _-_, _/_, _≤_, min};
+ghost use Prim.Native.Nat.{_+_, _<_, _≤_, min};
 ghost use lib.ListN.{length};
-ghost use Rattle.machine.specs.Checks.{blockRefusal};
-ghost use Rattle.machine.specs.Numbers.{LimitsBelow};
 ghost use Rattle.text.specs.Text.{refusedAt};
 ghost use Rattle.text.specs.Store.{Stored};
-ghost use Rattle.listing.specs.Given.{WroteLine, mostGiven};
-ghost use Rattle.tape.specs.Tape.{limitsBytes, recordBytes};
 ghost use Rattle.display.specs.Display.{refusalNumber};
-ghost use Rattle.tape.specs.Answers.{readRecord};
-ghost use Rattle.listing.specs.Parts.{ListingFrom, betweenOf, headIn, headerSize, mostBlocks, mostJunctions, onlyFirst, partBlocks, partOf, partSize, plannedPart, recordLine, recordLines};
+ghost use Rattle.tape.specs.Answers.{mostBlocks};
+ghost use Rattle.tapeplan.specs.Sheet.{rowsIn, sheetSize};
+ghost use Rattle.listing.specs.Given.{WroteLine, mostGiven};
+ghost use Rattle.listing.specs.Parts.{ListingFrom, headIn, headerSize, lineOf, mostJunctions, onlyFirst, partBlocks, partOf, partSize, plannedPart, rowLines};
+use crate::given::LINE;
 use crate::given::store_given;
 use display::Refusal;
 use display::refusal_number;
-use line::Given;
-use machine::Block;
-use machine::Limits;
-use machine::measure::numbers;
-use ramps::ramp_between;
-use tape::LIMITS_BYTES;
-use tape::LimitsRead;
-use tape::RECORD_BYTES;
-use tape::RecordRead;
-use tape::limits::read_limits;
-use tape::records::read_record;
-use tapeplan::MOST_BLOCKS;
+use machine::blocks::plain_block;
+use ramps::given_between;
+use tape::MOST_BLOCKS;
+use tape::records::records_in;
 use tapeplan::TapePlanned;
-use tapeplan::whole::plan_tape;
+use tapeplan::sheet::SHEET;
+use tapeplan::sheet::measured_at;
+use tapeplan::whole::plan_measured;
 use text::behind;
 use text::put_header;
 use text::put_refused_at;
-
-pub mod given;
 
 // Lines of a part at most, and parts of a listing at most.
 const BLOCKS: usize = 128;
 
 pub const PARTS: usize = MOST_BLOCKS / BLOCKS;
-// Bytes that hold any part: 49 of the header, and 190 for each of 128 lines.
-pub const TEXT: usize = 24_369;
+// Bytes of the header, and bytes that hold any part: the header, and a longest line for each block.
+const HEADER: usize = 49;
+
+pub const TEXT: usize = HEADER + BLOCKS * LINE;
 // Junctions of the longest tape.
 const JUNCTIONS: usize = MOST_BLOCKS + 1;
 
@@ -51,54 +46,36 @@ fn fewer(a: usize, b: usize) -> usize
     if a <= b { a } else { b }
 }
 
-// How many records follow the limits in so many bytes.
-fn records_in(bytes: usize) -> usize
-    ensures { λ r. ⌜ r ≡ (bytes - limitsBytes) / recordBytes ⌝ }
+// Stores the line of block k, from its row of the sheet and the plan's numbers at its two ends.
+fn put_block(sheet: &[u64], plan: &[u64], k: usize, text: &mut [u8], at: usize) -> usize
+    requires { ⌜ (k < rowsIn (now sheet)) × (k + 1 < length (now plan)) × (at + mostGiven ≤ length (now text)) ⌝ }
+    ensures { λ r. ⌜ WroteLine (lineOf (now (sheet .entry)) (now (plan .entry)) k) (now (text .entry)) at r (now (text .exit)) ⌝ }
 {
-    if bytes < LIMITS_BYTES {
-        return 0;
-    }
-    (bytes - LIMITS_BYTES) / RECORD_BYTES
+    let row = measured_at(sheet, k);
+    let b = plain_block(0, 0, 0, 0, 0, row.mark);
+    let entry = plan[k];
+    let exit = plan[k + 1];
+    let g = given_between(b, row.numbers, entry, exit);
+    store_given(text, at, g)
 }
 
-// A block with the squared speeds at its ends, (µm/s)²; a ramp of zeros between speeds that no plan has.
-fn given_between(l: Limits, b: Block, entry: u64, exit: u64) -> Given
-    requires { ⌜ LimitsBelow l × (blockRefusal b ≡ 0) ⌝ }
-    ensures { λ r. ⌜ r ≡ betweenOf l b entry exit ⌝ }
+// Stores the lines of 128 blocks from block `first` on, as far as there are so many.
+fn put_lines(
+    blocks: usize,
+    sheet: &[u64],
+    plan: &[u64],
+    first: usize,
+    text: &mut [u8],
+    at: usize,
+) -> usize
+    requires { ⌜ (length (now sheet) ≡ sheetSize) × (length (now plan) ≡ mostJunctions) × (first + partBlocks ≤ mostBlocks) × (at ≤ headerSize) × (length (now text) ≡ partSize) ⌝ }
+    ensures { λ r. ⌜ Stored (now (text .entry)) at (rowLines blocks (now (sheet .entry)) (now (plan .entry)) first partBlocks) r (now (text .exit)) ⌝ }
 {
-    let n = numbers(l, b);
-    Given {
-        block: b,
-        length: n.length,
-        accel: n.accel,
-        entry: entry,
-        exit: exit,
-        ramp: ramp_between(n, entry, exit),
-    }
-}
-
-// Stores the line of the record that the bytes begin with; none where it is refused.
-fn put_record(s: &[u8], l: Limits, entry: u64, exit: u64, text: &mut [u8], at: usize) -> usize
-    requires { ⌜ LimitsBelow l × (at + mostGiven ≤ length (now text)) ⌝ }
-    ensures { λ r. ⌜ WroteLine (recordLine l (readRecord (now (s .entry))) entry exit) (now (text .entry)) at r (now (text .exit)) ⌝ }
-{
-    match read_record(s) {
-        RecordRead::Refused(_) => at,
-        RecordRead::Read(b) => store_given(text, at, given_between(l, b, entry, exit)),
-    }
-}
-
-// Stores the lines of 128 records from record `first` on, as far as the bytes have them.
-fn put_lines(s: &[u8], l: Limits, plan: &[u64], first: usize, text: &mut [u8], at: usize) -> usize
-    requires { ⌜ LimitsBelow l × (length (now plan) ≡ mostJunctions) × (first + partBlocks ≤ mostBlocks) × (at ≤ headerSize) × (length (now text) ≡ partSize) ⌝ }
-    ensures { λ r. ⌜ Stored (now (text .entry)) at (recordLines l (now (s .entry)) (now (plan .entry)) first partBlocks) r (now (text .exit)) ⌝ }
-{
-    let to = fewer(first + BLOCKS, records_in(s.len()));
+    let to = fewer(first + BLOCKS, blocks);
     let mut end = at;
     let mut k = first;
     while k < to {
-        let from = LIMITS_BYTES + RECORD_BYTES * k;
-        end = put_record(&s[from..], l, plan[k], plan[k + 1], text, end);
+        end = put_block(sheet, plan, k, text, end);
         k += 1;
     }
     end
@@ -130,53 +107,54 @@ fn put_refusal(p: usize, why: Refusal, place: usize, text: &mut [u8]) -> usize
 }
 
 // Stores a part of a tape that was planned.
-fn put_part(s: &[u8], plan: &[u64], p: usize, text: &mut [u8]) -> usize
-    requires { ⌜ (length (now plan) ≡ mostJunctions) × (length (now text) ≡ partSize) ⌝ }
-    ensures { λ r. ⌜ Stored (now (text .entry)) 0 (plannedPart (now (s .entry)) (now (plan .entry)) p) r (now (text .exit)) ⌝ }
+fn put_part(blocks: usize, sheet: &[u64], plan: &[u64], p: usize, text: &mut [u8]) -> usize
+    requires { ⌜ (length (now sheet) ≡ sheetSize) × (length (now plan) ≡ mostJunctions) × (length (now text) ≡ partSize) ⌝ }
+    ensures { λ r. ⌜ Stored (now (text .entry)) 0 (plannedPart blocks (now (sheet .entry)) (now (plan .entry)) p) r (now (text .exit)) ⌝ }
 {
     if PARTS <= p {
         return 0;
     }
-    match read_limits(s) {
-        LimitsRead::Refused(_) => 0,
-        LimitsRead::Read(l) => {
-            let at = put_head(p, text);
-            put_lines(s, l, plan, BLOCKS * p, text, at)
-        }
-    }
+    let at = put_head(p, text);
+    put_lines(blocks, sheet, plan, BLOCKS * p, text, at)
 }
 
-// What a tape's listing is made from, besides its bytes. Only `of` makes one, so every speed in it is a plan's.
+// What a tape's listing is made from, besides its sheet. Only `of` makes one, so every speed in it is a plan's.
 pub struct Listing {
     // the answer of planning the tape
     answer: TapePlanned,
-    // its squared speed at each junction, (µm/s)², and zeros behind them
+    // how many blocks the tape has
+    blocks: usize,
+    // the squared speed at each junction, (µm/s)², and zeros behind them
     plan: [u64; JUNCTIONS],
 }
 
 impl Listing {
-    // Plans a tape.
-    pub fn of(s: &[u8]) -> Listing
-        ensures { λ r. ⌜ ListingFrom (now (s .entry)) r ⌝ }
+    // Plans a tape and stores what is measured of each block in the lent sheet; on a refusal the sheet holds what it held.
+    // Each record is decoded and its numbers are worked out once.
+    pub fn of(s: &[u8], sheet: &mut [u64; SHEET]) -> Listing
+        ensures { λ r. ⌜ ListingFrom (now (s .entry)) (now (sheet .entry)) (now (sheet .exit)) r ⌝ }
     {
+        let blocks = fewer(records_in(s), MOST_BLOCKS);
+        let junctions = blocks + 1;
         let mut plan = [0u64; JUNCTIONS];
-        let junctions = fewer(records_in(s.len()), MOST_BLOCKS) + 1;
-        let answer = plan_tape(s, &mut plan[..junctions]);
+        let answer = plan_measured(s, sheet, &mut plan[..junctions]);
         Listing {
             answer: answer,
+            blocks: blocks,
             plan: plan,
         }
     }
 
-    // Stores part p, counted from 0, of the listing of the tape that this was made from at the beginning of the lent text,
-    // whose other bytes stay as they are. Returns how many bytes it has: 0 behind the last part, and then of every later one.
-    pub fn part(self, s: &[u8], p: usize, text: &mut [u8; TEXT]) -> usize
-        ensures { λ r. ⌜ Stored (now (text .entry)) 0 (partOf self (now (s .entry)) p) r (now (text .exit)) ⌝ }
+    // Stores part p, counted from 0, of the listing of the tape that this and the sheet were made from at the beginning of
+    // the lent text, whose other bytes stay as they are. Returns how many bytes it has: 0 behind the last part, and then of
+    // every later one.
+    pub fn part(self, sheet: &[u64; SHEET], p: usize, text: &mut [u8; TEXT]) -> usize
+        ensures { λ r. ⌜ Stored (now (text .entry)) 0 (partOf self (now (sheet .entry)) p) r (now (text .exit)) ⌝ }
     {
         let answer = self.answer;
         match answer {
             TapePlanned::Refused(why, place) => put_refusal(p, why, place, text),
-            TapePlanned::Planned => put_part(s, &self.plan, p, text),
+            TapePlanned::Planned => put_part(self.blocks, sheet, &self.plan, p, text),
         }
     }
 }

@@ -3,20 +3,21 @@
 use mathlib.Core.Path.{_≡_, refl, sym, subst}
 use mathlib.Core.List.{List, _∷_, []}
 use mathlib.Core.Bool.{Bool, true, _&&_}
-use Prim.Native.Nat.{ℕ, zero, suc, _-_, _*_, _/_, _≤_, _<_, max}
+use Prim.Native.Nat.{ℕ, zero, suc, _-_, _*_, _/_, _%_, _^_, _≤_, _<_, max}
 use native.Mathlib.Nat.{le-trans, le-of-lt, lt-of-not-le, mul-le-mul, mul-le-mul-left, mul-le-mul-right, le-max-left, max-le, max-eq-left, max-eq-right, mul-comm, mul-left-comm, mul-assoc, mul-pos, le-of-mul-le-mul-right, div-le-of-le-mul}
-use native.Mathlib.Decide.{decLe}
+use native.Mathlib.Decide.{decLe, ℕ-discrete}
 use native.Mathlib.Omega.{arith}
-use borrow.Author.Tests.{leb-true}
-use lib.Dec.{leb, lit<, lit≤}
+use borrow.Author.Tests.{leb-true, eqb-true}
+use lib.Dec.{leb, eqb, lit<}
 use lib.ListN.{getD}
 use Rattle.arith.proofs.QuotientLaws.{quotient-is}
-use Rattle.machine.specs.Ranges.{mostAccel, mostSpeed}
+use Rattle.machine.specs.Ranges.{mostAccel, mostSpeed, mostFeed}
 use Rattle.machine.specs.Checks.{greatestMove, movesOf, blockRefusal, limitsRefusal}
-use Rattle.machine.specs.Numbers.{unit, lengthFrom, lengthOf, axisLimit, eachAxis, speedOf, torquePercent, torqueSteps, axisAccel, accelOf}
+use Rattle.machine.specs.Numbers.{unit, lengthFrom, lengthOf, axisLimit, eachAxis, speedOf, torqueOf, builtInSteps, builtInTorque, builtIn, torquePercent, axisAccel, accelOf}
 use Rattle.machine.specs.Meaning.{Largest, Allowed, SpeedFits, AccelFits}
 use Rattle.machine.specs.declared.Axes.{Axes}
 use Rattle.machine.specs.declared.Limits.{Limits}
+use Rattle.machine.specs.declared.Machine.{Machine}
 use Rattle.machine.specs.declared.Block.{Block}
 use Rattle.machine.proofs.Bounds.{AxesIn, in-range, limits-in}
 use Rattle.machine.proofs.Tests.{both}
@@ -110,28 +111,71 @@ list-at-most most [] e k = omega arith
 list-at-most most (x ∷ s) e zero = leb-true x most (both (leb x most) (atMost most s) e .0)
 list-at-most most (x ∷ s) e (suc k) = list-at-most most s (both (leb x most) (atMost most s) e .1) k
 
--- a torque step is at most 100 percent
-pub percent-below : (v : ℕ) → torquePercent v ≤ 100
-unfolding torquePercent atMost
-percent-below v = list-at-most 100 torqueSteps refl ((v - 1) / 125_000)
+-- the first n bytes of the built-in torque are its steps' percentages
+bytesAgree : ℕ → Bool
+bytesAgree zero = true
+bytesAgree (suc k) = eqb (builtInTorque / 2 ^ (8 * (7 - k)) % 256) (getD builtInSteps k 0) && bytesAgree k
 
--- so it raises nothing
+agree-at : (n : ℕ) → bytesAgree n ≡ true → (k : ℕ) → k < n → builtInTorque / 2 ^ (8 * (7 - k)) % 256 ≡ getD builtInSteps k 0
+unfolding bytesAgree
+agree-at zero e k h = absurd (omega arith)
+agree-at (suc n) e k h =
+    let here = both _ _ e in
+    elim (ℕ-discrete k n) [ yes q ↦ rw q (eqb-true _ _ (here .0)) | no q ↦ agree-at n (here .1) k (omega arith) ]
+
+percent-at : (k : ℕ) → k < 8 → builtInTorque / 2 ^ (8 * (7 - k)) % 256 ≡ getD builtInSteps k 0
+unfolding bytesAgree torqueOf
+percent-at = agree-at 8 refl
+
+-- the built-in percent at a block speed is that of its step
+pub built-in-percents : (v : ℕ) → v ≤ mostFeed → torquePercent builtInTorque v ≡ getD builtInSteps ((v - 1) / 125_000) 0
+unfolding torquePercent
+built-in-percents v h = percent-at ((v - 1) / 125_000) (omega arith)
+
+-- it is at most 100 at any speed: the last step has no end
+pub percent-below : (v : ℕ) → torquePercent builtInTorque v ≤ 100
+unfolding torquePercent atMost
+percent-below v = go ((v - 1) / 125_000)
+  where
+    go : (k : ℕ) → builtInTorque / 2 ^ (8 * (7 - k)) % 256 ≤ 100
+    go k =
+        let back : 7 - k ≡ 7 - (7 - (7 - k)) = omega arith in
+        rw (back, percent-at (7 - (7 - k)) (omega arith)) (list-at-most 100 builtInSteps refl (7 - (7 - k)))
+
+-- of any torque it is a byte
+pub percent-byte : (torque v : ℕ) → torquePercent torque v < 256
+unfolding torquePercent
+percent-byte torque v = omega arith
+
+-- a percent up to 100 raises nothing
 torqued-below : (a percent : ℕ) → percent ≤ 100 → a * percent / 100 ≤ a
 torqued-below a percent h = div-le-of-le-mul 100 (omega (arith, mul-le-mul-left a h, mul-comm a 100))
 
--- Acceleration a is from 1 to twice the greatest limit
-pub accel-above : (l : Limits) (b : Block) → 1 ≤ accelOf l b
+-- Acceleration a is at least 1
+pub accel-above : (m : Machine) (b : Block) → 1 ≤ accelOf m b
 unfolding accelOf
-accel-above l b = le-max-left _ _
+accel-above m b = le-max-left _ _
 
-pub accel-below : (l : Limits) (b : Block) → accelOf l b ≤ 2 * mostAccel
+-- and with any torque below 2^27
+pub accel-below : (m : Machine) (b : Block) → accelOf m b < 2 ^ 27
 unfolding accelOf axisAccel
-accel-below l b = max-le (lit≤ tt) (le-trans (torqued-below _ _ (percent-below _)) (each-below _ _ _ _))
+accel-below m b =
+    let l = m .limits in
+    let most = axisAccel l b in
+    let percent = torquePercent (m .torque) (speedOf l b) in
+    let product = mul-le-mul {n₁ = most} {m₁ = percent} {n₂ = 2 * mostAccel} {m₂ = 255} (each-below _ _ _ _) (omega (arith, percent-byte (m .torque) (speedOf l b))) in
+    omega arith
 
--- and every axis allows it, also where it was raised to 1
-pub accel-allowed : (l : Limits) (b : Block) → limitsRefusal l ≡ 0 → blockRefusal b ≡ 0 → AccelFits l b (accelOf l b)
+-- where the torque gives at most 100 percent every axis allows it, also where it was raised to 1
+pub accel-allowed : (m : Machine) (b : Block) → limitsRefusal (m .limits) ≡ 0 → blockRefusal b ≡ 0 → torquePercent (m .torque) (speedOf (m .limits) b) ≤ 100
+    → AccelFits (m .limits) b (accelOf m b)
 unfolding accelOf
-accel-allowed l b h g =
+accel-allowed m b h g percent =
+    let l = m .limits in
     allowed-below (l .accel) (lengthOf b) (movesOf b)
-    (max-le (axis-accel-above l b h g) (torqued-below _ _ (percent-below _)))
+    (max-le (axis-accel-above l b h g) (torqued-below _ _ percent))
     (axis-accel-largest l b h g .has)
+
+-- so it does with the built-in torque
+pub built-in-allowed : (l : Limits) (b : Block) → limitsRefusal l ≡ 0 → blockRefusal b ≡ 0 → AccelFits l b (accelOf (builtIn l) b)
+built-in-allowed l b h g = accel-allowed (builtIn l) b h g (percent-below (speedOf l b))

@@ -3,9 +3,12 @@ pub mod AxisLaws
 pub mod Bounds
 pub mod CapLaws
 pub mod Dots
+pub mod Junctions
+pub mod Labels
 pub mod LengthLaws
 pub mod Limited
 pub mod RampLaws
 pub mod Rampables
+pub mod Runs
 pub mod Spans
 pub mod Tests

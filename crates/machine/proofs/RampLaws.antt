@@ -4,11 +4,10 @@ use mathlib.Core.Path.{_≡_}
 use Prim.Native.Nat.{ℕ, _+_, _-_, _*_, _/_, _^_, _≤_, _<_}
 use native.Mathlib.Nat.{le-min, min-le-left, min-le-right, div-mul-le-self, mul-div-le, mul-le-mul, mul-le-mul-left, le-of-mul-le-mul-right, add-mul, mul-add, mul-comm}
 use native.Mathlib.Omega.{arith}
-use Rattle.machine.specs.Ranges.{mostAccel}
 use Rattle.machine.specs.Checks.{movesOf, blockRefusal}
 use Rattle.machine.specs.Numbers.{unit, lengthOf, accelOf, reachFrom, reachOf, blockCap, numbersOf, peakOf, upOf, downOf, Rampable, rampOf}
 use Rattle.machine.specs.Meaning.{Largest, PeakFits}
-use Rattle.machine.specs.declared.Limits.{Limits}
+use Rattle.machine.specs.declared.Machine.{Machine}
 use Rattle.machine.specs.declared.Block.{Block}
 use Rattle.machine.specs.declared.Numbers.{Numbers}
 use Rattle.machine.proofs.Bounds.{moves-below, length-below}
@@ -59,17 +58,17 @@ ramp-fills n entry exit r e =
     omega arith
 
 -- a block's own numbers meet what a ramp asks of them
-pub numbers-rampable : (l : Limits) (b : Block) (entry exit : ℕ) → blockRefusal b ≡ 0
-    → entry ≤ blockCap l b → exit ≤ blockCap l b → entry ≤ exit + reachOf l b → exit ≤ entry + reachOf l b → Rampable (numbersOf l b) entry exit
+pub numbers-rampable : (m : Machine) (b : Block) (entry exit : ℕ) → blockRefusal b ≡ 0
+    → entry ≤ blockCap (m .limits) b → exit ≤ blockCap (m .limits) b → entry ≤ exit + reachOf m b → exit ≤ entry + reachOf m b → Rampable (numbersOf m b) entry exit
 unfolding numbersOf reachFrom
-numbers-rampable l b entry exit g entered exited falls rises =
+numbers-rampable m b entry exit g entered exited falls rises =
     let length = length-below (movesOf b) (moves-below b g) in
-    let accel = accel-below l b in
+    let accel = accel-below m b in
     record {
-      accel-above = accel-above l b;
+      accel-above = accel-above m b;
       accel-below = omega arith;
-      cap-below = omega (arith, block-cap-below l b g);
-      reach-below = omega (arith, mul-le-mul {n₁ = 2 * accelOf l b} {m₁ = lengthOf b} {n₂ = 4 * mostAccel} {m₂ = 2 ^ 25} (omega arith) (omega arith));
+      cap-below = omega (arith, block-cap-below (m .limits) b g);
+      reach-below = omega (arith, mul-le-mul {n₁ = 2 * accelOf m b} {m₁ = lengthOf b} {n₂ = 2 ^ 28} {m₂ = 2 ^ 25} (omega arith) (omega arith));
       entry-capped = entered;
       exit-capped = exited;
       falls = falls;

@@ -2,7 +2,7 @@
 use Prim.Native.Nat.{ℕ}
 use Rattle.display.specs.Display.{refusalNumber, _then_, Outcome, orRefused, given, refused}
 use Rattle.machine.specs.Checks.{limitsRefusal, blockRefusal}
-use Rattle.machine.specs.Numbers.{numbersOf, junctionCap}
+use Rattle.machine.specs.Numbers.{builtIn, numbersOf, junctionCap}
 use Rattle.machine.specs.declared.Limits.{Limits}
 use Rattle.machine.specs.declared.Block.{Block}
 use Rattle.machine.specs.declared.Numbers.{Numbers}
@@ -24,9 +24,9 @@ capMeans (cap.Refused r) = refused (refusalNumber r)
 abbrev pub callRefusal : Limits → Block → ℕ
 callRefusal l b = limitsRefusal l then blockRefusal b
 
--- a block's numbers, refused by 1, then by 2 to 6
+-- a block's numbers on the machine with built-in torque steps, refused by 1, then by 2 to 6
 abbrev pub numbersAnswer : Limits → Block → Outcome ℕ Numbers
-numbersAnswer l b = orRefused (callRefusal l b) (numbersOf l b)
+numbersAnswer l b = orRefused (callRefusal l b) (numbersOf (builtIn l) b)
 
 -- the junction cap between two blocks, (µm/s)², refused by 1, then by 2 to 6 of the first block, then of the second
 abbrev pub junctionAnswer : Limits → (a b : Block) → Outcome ℕ ℕ

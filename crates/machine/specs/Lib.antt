@@ -1,6 +1,7 @@
 -- Document 01's machine and block: ranges, refusals, numbers, what the numbers mean, and what the calls answer.
 pub mod Answers
 pub mod Checks
+pub mod Labels
 pub mod Line
 pub mod Lists
 pub mod Meaning

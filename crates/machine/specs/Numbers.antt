@@ -1,11 +1,11 @@
 -- Document 01, "From a block to its numbers" and the ramp of "Plan, give out, ramp".
 -- Lengths are in µm, speeds in µm/s, squared speeds and reaches in (µm/s)², accelerations in µm/s².
 use mathlib.Core.List.{List, _∷_, []}
-use Prim.Native.Nat.{ℕ, zero, suc, _+_, _-_, _*_, _/_, _^_, _≤_, _<_, min, max}
+use Prim.Native.Nat.{ℕ, zero, suc, _+_, _-_, _*_, _/_, _%_, _^_, _≤_, _<_, min, max}
 use mathlib.Core.Bool.{Bool, _&&_, cond}
 use lib.Dec.{leb, ltb, eqb}
 use lib.IntN.{ℤ, pos, _+ℤ_, _*ℤ_}
-use lib.ListN.{getD}
+use lib.ListN.{length}
 use Rattle.arith.specs.Root.{rootOf}
 use Rattle.arith.specs.Quotient.{cappedQuotient}
 use Rattle.arith.specs.Signed.{gapOf}
@@ -13,6 +13,7 @@ use Rattle.machine.specs.Ranges.{mostAccel}
 use Rattle.machine.specs.Checks.{movesOf}
 use Rattle.machine.specs.declared.Axes.{Axes}
 use Rattle.machine.specs.declared.Limits.{Limits}
+use Rattle.machine.specs.declared.Machine.{Machine}
 use Rattle.machine.specs.declared.Block.{Block}
 use Rattle.machine.specs.declared.Numbers.{Numbers}
 use Rattle.machine.specs.declared.Ramp.{Ramp}
@@ -37,9 +38,9 @@ lengthFrom m = rootOf (unit * unit * (m .x * m .x + m .y * m .y + m .z * m .z))
 abbrev pub lengthOf : Block → ℕ
 lengthOf b = lengthFrom (movesOf b)
 
--- the largest number not above `cap` with number × move ≤ limit × length on one axis
-unfoldable pub axisLimit : (cap limit length step : ℕ) → ℕ
-axisLimit cap limit length step = cappedQuotient cap (limit * length) (unit * step)
+-- the largest number not above `cap` with number × move ≤ limit × length on one axis, along which the block moves `along` µm
+unfoldable pub axisLimit : (cap limit length along : ℕ) → ℕ
+axisLimit cap limit length along = cappedQuotient cap (limit * length) (unit * along)
 
 -- the same on every axis; an axis that does not move allows everything
 unfoldable pub eachAxis : (cap : ℕ) (limits : Axes) (length : ℕ) (m : Axes) → ℕ
@@ -49,13 +50,26 @@ eachAxis cap limits length m = axisLimit (axisLimit (axisLimit cap (limits .x) l
 unfoldable pub speedOf : Limits → Block → ℕ
 speedOf l b = eachAxis (b .feed) (l .speed) (lengthOf b) (movesOf b)
 
--- the torque steps: percent of the acceleration at each step
-abbrev pub torqueSteps : List ℕ
-torqueSteps = 100 ∷ 100 ∷ 90 ∷ 80 ∷ 70 ∷ 60 ∷ 50 ∷ 40 ∷ []
+-- percentages of torque steps as one number: a byte for each, the first most significant
+unfoldable pub torqueOf : List ℕ → ℕ
+torqueOf [] = 0
+torqueOf (percent ∷ rest) = percent * 256 ^ length rest + torqueOf rest
 
--- the percent at a speed: a step is 125,000 µm/s, the first begins at 1
-unfoldable pub torquePercent : ℕ → ℕ
-torquePercent v = getD torqueSteps ((v - 1) / 125_000) 0
+-- document 01's torque steps: percent of the acceleration at each
+abbrev pub builtInSteps : List ℕ
+builtInSteps = 100 ∷ 100 ∷ 90 ∷ 80 ∷ 70 ∷ 60 ∷ 50 ∷ 40 ∷ []
+
+abbrev pub builtInTorque : ℕ
+builtInTorque = torqueOf builtInSteps
+
+-- the machine with these limits and document 01's torque steps
+abbrev pub builtIn : Limits → Machine
+builtIn l = record { limits = l; torque = builtInTorque }
+
+-- the percent at a speed: a step is 125,000 µm/s, the first begins at 1, the eighth and last has the lowest byte
+-- (of the built-in torque it is that step's percent: the law `built-in-percents`)
+unfoldable pub torquePercent : (torque v : ℕ) → ℕ
+torquePercent torque v = torque / 2 ^ (8 * (7 - (v - 1) / 125_000)) % 256
 
 -- as much acceleration as the limit of every moving axis allows
 -- (of a block that moves it is below the bound given here: the law `axis-accel-largest`)
@@ -63,15 +77,15 @@ unfoldable pub axisAccel : Limits → Block → ℕ
 axisAccel l b = eachAxis (2 * mostAccel) (l .accel) (lengthOf b) (movesOf b)
 
 -- Acceleration a: the percent of the torque step of it, rounded down, but never below 1
-unfoldable pub accelOf : Limits → Block → ℕ
-accelOf l b = max 1 (axisAccel l b * torquePercent (speedOf l b) / 100)
+unfoldable pub accelOf : Machine → Block → ℕ
+accelOf m b = max 1 (axisAccel (m .limits) b * torquePercent (m .torque) (speedOf (m .limits) b) / 100)
 
 -- Reach b = 2 × a × L
 unfoldable pub reachFrom : (accel length : ℕ) → ℕ
 reachFrom accel length = 2 * accel * length / unit
 
-abbrev pub reachOf : Limits → Block → ℕ
-reachOf l b = reachFrom (accelOf l b) (lengthOf b)
+abbrev pub reachOf : Machine → Block → ℕ
+reachOf m b = reachFrom (accelOf m b) (lengthOf b)
 
 -- chord rule: 8 × E × R
 unfoldable pub chordFactor : Limits → (radius : ℕ) → ℕ
@@ -92,8 +106,8 @@ abbrev pub blockCap : Limits → Block → ℕ
 blockCap l b = blockCapFrom l (b .radius) (speedOf l b)
 
 -- a block's numbers together
-unfoldable pub numbersOf : Limits → Block → Numbers
-numbersOf l b = record { length = lengthOf b; accel = accelOf l b; reach = reachOf l b; cap = blockCap l b }
+unfoldable pub numbersOf : Machine → Block → Numbers
+numbersOf m b = record { length = lengthOf b; accel = accelOf m b; reach = reachOf m b; cap = blockCap (m .limits) b }
 
 -- S: the scalar product of two moves, µm². P, the product of their lengths, counts parts of a µm
 abbrev pub dotOf : Block → Block → ℤ
@@ -125,6 +139,20 @@ underCorner (upTo q) cap = min cap q
 -- Junction cap: the least of the caps of both blocks and of their corner
 unfoldable pub junctionCap : Limits → Block → Block → ℕ
 junctionCap l a b = underCorner (cornerCap l a b) (min (blockCap l a) (blockCap l b))
+
+-- the same from two blocks' numbers (of a machine's numbers it is the junction cap: the law `junction-from-numbers`)
+unfoldable pub junctionFrom : (jump : ℕ) (a : Block) (na : Numbers) (b : Block) (nb : Numbers) → ℕ
+junctionFrom jump a na b nb =
+    let product = na .length * nb .length in
+    underCorner (cornerFrom jump product (turnFrom product a b)) (min (na .cap) (nb .cap))
+
+-- a corner jump, moves and lengths that fit the words in which it is worked out
+pub record Joinable (jump : ℕ) (a : Block) (na : Numbers) (b : Block) (nb : Numbers) : Type 0 where
+  pub jump-below : jump < 2 ^ 32
+  pub first-length : na .length < 2 ^ 30
+  pub second-length : nb .length < 2 ^ 30
+  pub first-moves : AxesBelow (2 ^ 21) (movesOf a)
+  pub second-moves : AxesBelow (2 ^ 21) (movesOf b)
 
 -- the peak: the greatest squared speed under the block cap that the reach allows from the entry and back to the exit
 unfoldable pub peakOf : (cap reach entry exit : ℕ) → ℕ

@@ -12,6 +12,7 @@ use crate::check::check_block;
 use crate::check::check_limits;
 use crate::corner::junction_cap;
 use crate::measure::numbers;
+use crate::torque::built_in;
 use display::Checked;
 
 // Refusal 1, then the first of 2 to 6 that the block meets, or none.
@@ -36,14 +37,14 @@ fn check_pair(l: Limits, a: Block, b: Block) -> Checked
     }
 }
 
-// All numbers of a block.
+// All numbers of a block, with the built-in torque.
 pub fn numbers_answer(l: Limits, b: Block) -> NumbersAnswer
     ensures { λ r. ⌜ numbersMeans r ≡ numbersAnswer l b ⌝ }
 {
     let checked = check_call(l, b);
     match checked {
         Checked::Refused(why) => NumbersAnswer::Refused(why),
-        Checked::Passed => NumbersAnswer::Of(numbers(l, b)),
+        Checked::Passed => NumbersAnswer::Of(numbers(built_in(l), b)),
     }
 }
 

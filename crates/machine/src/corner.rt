@@ -2,10 +2,12 @@
 ghost use mathlib.Core.Path.{_≡_};
 ghost use Prim.Native.Nat.{_*_, _^_, _<_};
 ghost use Rattle.machine.specs.Checks.{blockRefusal, movesOf};
-ghost use Rattle.machine.specs.Numbers.{AxesBelow, LimitsBelow, cornerFrom, dotOf, junctionCap, turnFrom, underCorner};
+ghost use Rattle.machine.specs.Numbers.{AxesBelow, Joinable, LimitsBelow, cornerFrom, dotOf, junctionCap, junctionFrom, turnFrom, underCorner};
 use crate::Block;
 use crate::Limits;
+use crate::Numbers;
 use crate::measure::numbers;
+use crate::torque::built_in;
 use arith::quotient::capped_quotient;
 use arith::signed::gap;
 use arith::signed::plus;
@@ -46,13 +48,22 @@ pub fn under_corner(cap: u64, jump: u64, a: Block, length_a: u64, b: Block, leng
     capped_quotient(cap, jump * jump, product, 2 * turn(product, a, b))
 }
 
-// The junction cap between two blocks that pass 2 to 6, (µm/s)².
+// The junction cap between two blocks, (µm/s)², from the corner jump and both blocks' numbers.
+pub fn junction_from(jump: u64, a: Block, na: Numbers, b: Block, nb: Numbers) -> u64
+    requires { ⌜ Joinable jump a na b nb ⌝ }
+    ensures { λ r. ⌜ r ≡ junctionFrom jump a na b nb ⌝ }
+{
+    let cap = smaller(na.cap, nb.cap);
+    under_corner(cap, jump, a, na.length, b, nb.length)
+}
+
+// The same between two blocks that pass 2 to 6. No torque plays a part.
 pub(crate) fn junction_cap(l: Limits, a: Block, b: Block) -> u64
     requires { ⌜ LimitsBelow l × (blockRefusal a ≡ 0) × (blockRefusal b ≡ 0) ⌝ }
     ensures { λ r. ⌜ r ≡ junctionCap l a b ⌝ }
 {
-    let before = numbers(l, a);
-    let after = numbers(l, b);
-    let cap = smaller(before.cap, after.cap);
-    under_corner(cap, l.jump, a, before.length, b, after.length)
+    let m = built_in(l);
+    let na = numbers(m, a);
+    let nb = numbers(m, b);
+    junction_from(l.jump, a, na, b, nb)
 }

@@ -1,9 +1,12 @@
 // The machine and the block: limits, blocks, what is refused of them, and the numbers that a plan
 // is made of. Lengths are in µm, speeds in µm/s, squared speeds in (µm/s)², accelerations in µm/s².
 pub mod answer;
+pub mod blocks;
 pub mod check;
 pub mod corner;
+pub mod lists;
 pub mod measure;
+pub mod torque;
 
 use display::Refusal;
 
@@ -26,6 +29,14 @@ pub struct Limits {
     pub chord: u64,
     // tick, microseconds
     pub tick: u64,
+}
+
+// A machine: its limits and the torque of its motors.
+pub struct Machine {
+    pub limits: Limits,
+    // percent of the acceleration that the motors give at each of eight speed steps, a byte for each,
+    // the first step's most significant
+    pub torque: u64,
 }
 
 // A straight move of the table.

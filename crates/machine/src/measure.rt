@@ -2,28 +2,22 @@
 ghost use mathlib.Core.Path.{_≡_};
 ghost use Prim.Native.Nat.{_*_, _/_, _^_, _≤_, _<_, max};
 ghost use Rattle.machine.specs.Checks.{blockRefusal, movesOf};
-ghost use Rattle.machine.specs.Numbers.{AxesBelow, LimitsBelow, axisLimit, blockCapFrom, eachAxis, lengthFrom, numbersOf, torquePercent};
+ghost use Rattle.machine.specs.Numbers.{AxesBelow, LimitsBelow, axisLimit, blockCapFrom, eachAxis, lengthFrom, lengthOf, numbersOf, speedOf, torquePercent};
 ghost use Rattle.machine.specs.Ranges.{mostAccel, mostFeed, mostRadius};
 use crate::Axes;
 use crate::Block;
 use crate::Limits;
+use crate::Machine;
 use crate::Numbers;
 use crate::check::MOST_ACCEL;
+use crate::torque::torque_percent;
 use arith::quotient::capped_quotient;
 use arith::root::root;
 use arith::signed::magnitude;
 use arith::whole::larger;
-use arith::whole::less;
-use arith::whole::wide;
 
 // Parts of a µm in which a length is counted.
 pub const UNIT: u64 = 1;
-
-// Percent of the acceleration that the motors give at each speed step.
-const TORQUE: [u8; 8] = [100, 100, 90, 80, 70, 60, 50, 40];
-
-// Width of a torque step, µm/s: the first ends at this speed.
-const TORQUE_STEP: u64 = 125_000;
 
 // The moves of a block without their signs, µm.
 pub fn moves_of(b: Block) -> Axes
@@ -47,14 +41,14 @@ fn length_of(m: Axes) -> u64
     root(UNIT * UNIT * (m.x * m.x + m.y * m.y + m.z * m.z))
 }
 
-// The largest number up to `cap` with number × move ≤ limit × length on one axis. The division is
-// made only where the cap is too much.
-fn axis_limit(cap: u64, limit: u64, length: u64, step: u64) -> u64
-    requires { ⌜ (cap < 2 ^ 32) × (limit < 2 ^ 32) × (length < 2 ^ 32) × (step < 2 ^ 20) ⌝ }
-    ensures { λ r. ⌜ r ≡ axisLimit cap limit length step ⌝ }
+// The largest number up to `cap` with number × move ≤ limit × length on one axis, along which the
+// block moves `along` µm. The division is made only where the cap is too much.
+fn axis_limit(cap: u64, limit: u64, length: u64, along: u64) -> u64
+    requires { ⌜ (cap < 2 ^ 32) × (limit < 2 ^ 32) × (length < 2 ^ 32) × (along < 2 ^ 20) ⌝ }
+    ensures { λ r. ⌜ r ≡ axisLimit cap limit length along ⌝ }
 {
     let most = limit * length;
-    let part = UNIT * step;
+    let part = UNIT * along;
     if cap * part <= most {
         return cap;
     }
@@ -71,21 +65,12 @@ fn each_axis(cap: u64, limits: Axes, length: u64, m: Axes) -> u64
     axis_limit(y, limits.z, length, m.z)
 }
 
-// Percent of the acceleration that the motors give at a block speed.
-fn torque_percent(speed: u64) -> u64
-    requires { ⌜ speed ≤ mostFeed ⌝ }
-    ensures { λ r. ⌜ (r ≡ torquePercent speed) × (r < 256) ⌝ }
-{
-    let step = less(speed, 1) / TORQUE_STEP;
-    wide(TORQUE[step as usize])
-}
-
 // The acceleration after the torque steps, µm/s².
-fn accel_of(most: u64, speed: u64) -> u64
+fn accel_of(most: u64, torque: u64, speed: u64) -> u64
     requires { ⌜ (most ≤ 2 * mostAccel) × (speed ≤ mostFeed) ⌝ }
-    ensures { λ r. ⌜ (r ≡ max 1 (most * torquePercent speed / 100)) × (r < 2 ^ 27) ⌝ }
+    ensures { λ r. ⌜ (r ≡ max 1 (most * torquePercent torque speed / 100)) × (r < 2 ^ 27) ⌝ }
 {
-    larger(1, most * torque_percent(speed) / 100)
+    larger(1, most * torque_percent(torque, speed) / 100)
 }
 
 // The block cap, (µm/s)².
@@ -105,17 +90,27 @@ fn block_cap(l: Limits, radius: u64, speed: u64) -> u64
     )
 }
 
-// All numbers of a block that passes 2 to 6.
-pub fn numbers(l: Limits, b: Block) -> Numbers
-    requires { ⌜ LimitsBelow l × (blockRefusal b ≡ 0) ⌝ }
-    ensures { λ r. ⌜ r ≡ numbersOf l b ⌝ }
+// The block speed of a block that passes 2 to 6 and has this length, µm/s.
+pub fn speed_of(l: Limits, b: Block, length: u64) -> u64
+    requires { ⌜ LimitsBelow l × (blockRefusal b ≡ 0) × (length ≡ lengthOf b) ⌝ }
+    ensures { λ r. ⌜ r ≡ speedOf l b ⌝ }
 {
-    let m = moves_of(b);
-    let length = length_of(m);
     let speeds = l.speed;
-    let speed = each_axis(b.feed, speeds, length, m);
+    each_axis(b.feed, speeds, length, moves_of(b))
+}
+
+// All numbers of a block that passes 2 to 6.
+pub fn numbers(m: Machine, b: Block) -> Numbers
+    requires { ⌜ LimitsBelow (m .limits) × (blockRefusal b ≡ 0) ⌝ }
+    ensures { λ r. ⌜ r ≡ numbersOf m b ⌝ }
+{
+    let l = m.limits;
+    let moves = moves_of(b);
+    let length = length_of(moves);
+    let speed = speed_of(l, b, length);
     let accels = l.accel;
-    let accel = accel_of(each_axis(2 * MOST_ACCEL, accels, length, m), speed);
+    let most = each_axis(2 * MOST_ACCEL, accels, length, moves);
+    let accel = accel_of(most, m.torque, speed);
     Numbers {
         length: length,
         accel: accel,

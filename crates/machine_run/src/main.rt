@@ -11,14 +11,14 @@ use display::refusal_number;
 use fields::signed_word;
 use libc::STDIN_FILENO;
 use libc::STDOUT_FILENO;
-use machine::Axes;
 use machine::Block;
 use machine::CapAnswer;
-use machine::Limits;
 use machine::Numbers;
 use machine::NumbersAnswer;
 use machine::answer::junction_answer;
 use machine::answer::numbers_answer;
+use machine::blocks::plain_block;
+use machine::lists::limits_from;
 use std::num::wrapping_sub_u64;
 
 // Numbers of a case.
@@ -82,36 +82,14 @@ fn with_word(s: State) -> State {
     }
 }
 
-fn limits_of(w: [u64; WORDS]) -> Limits {
-    Limits {
-        accel: Axes {
-            x: w[0],
-            y: w[1],
-            z: w[2],
-        },
-        speed: Axes {
-            x: w[3],
-            y: w[4],
-            z: w[5],
-        },
-        jump: w[6],
-        chord: w[7],
-        tick: w[8],
-    }
-}
-
 // The block whose six words begin at `at`.
 fn block_at(w: [u64; WORDS], at: usize) -> Block
     requires { ⌜ at < 16 ⌝ }
 {
-    Block {
-        x: signed_word(w[at]),
-        y: signed_word(w[at + 1]),
-        z: signed_word(w[at + 2]),
-        feed: w[at + 3],
-        radius: w[at + 4],
-        mark: w[at + 5],
-    }
+    let x = signed_word(w[at]);
+    let y = signed_word(w[at + 1]);
+    let z = signed_word(w[at + 2]);
+    plain_block(x, y, z, w[at + 3], w[at + 4], w[at + 5])
 }
 
 // Stores text in `out` from `at` on, where there is room for it, and gives the place after it.
@@ -170,7 +148,7 @@ fn put_cap_answer(out: &mut [u8], at: usize, answer: CapAnswer) -> usize {
 
 // The answer of a whole case.
 fn put_case(out: &mut [u8], at: usize, w: [u64; WORDS]) -> usize {
-    let l = limits_of(w);
+    let l = limits_from(&w);
     let a = block_at(w, 9);
     let b = block_at(w, 15);
     let first = put_numbers_answer(out, at, numbers_answer(l, a));

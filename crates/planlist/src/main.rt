@@ -9,6 +9,7 @@ use listing::TEXT;
 use streams::Input;
 use streams::read_input;
 use tape::MOST_BYTES;
+use tapeplan::sheet::SHEET;
 
 // One byte more than the longest tape: a longer input is refused by 10 whatever follows, so no more of it is read.
 const INPUT: usize = MOST_BYTES + 1;
@@ -21,11 +22,12 @@ fn say_error(line: &[u8]) {
 // Writes the listing of a tape part after part, as long as they are taken. It ends at a part without a byte: behind that
 // there is none.
 fn list(tape: &[u8]) {
-    let listing = Listing::of(tape);
+    let mut sheet = [0u64; SHEET];
+    let listing = Listing::of(tape, &mut sheet);
     let mut text = [0u8; TEXT];
     let mut p: usize = 0;
     while p < PARTS {
-        let end = listing.part(tape, p, &mut text);
+        let end = listing.part(&sheet, p, &mut text);
         if end == 0 {
             return;
         }

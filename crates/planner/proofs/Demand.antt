@@ -1,26 +1,21 @@
 -- Demand 3 of the planner's own calls: from the promises of fresh, add, take, told and shown alone.
-use mathlib.Core.List.{List, _∷_, _++_, []}
+use mathlib.Core.List.{List, _∷_}
 use mathlib.Core.Path.{_≡_, refl}
 use Prim.Native.Nat.{ℕ, zero, suc, _≤_}
 use native.Mathlib.Omega.{arith}
 use lib.ListN.{take}
+use Rattle.machine.specs.Numbers.{builtIn}
 use Rattle.machine.specs.declared.Limits.{Limits}
 use Rattle.line.specs.declared.Given.{Given}
 use Rattle.line.specs.Answers.{Answer, gave}
 use Rattle.line.specs.Blocks.{mostHeld, Call, Line, freshLine, lineAnswers, lineAfterAll}
 use Rattle.line.specs.Demand.{GivenFrom, answerAt, Demand3}
 use Rattle.line.proofs.Takes.{holds-given}
-use Rattle.planner.specs.Calls.{MemoryHolds, Called, CalledAll, none, next, Freshened, Told, Showed}
+use Rattle.planner.specs.Calls.{MemoryHolds, CalledAll, none, next, Freshened, Told, Showed}
 
--- A planner tells at most 64, whatever its memory holds.
+-- A planner tells no more than are held at most, whatever its memory holds.
 pub told-few : {m : List ℕ} {told : ℕ} → Told m told → told ≤ mostHeld
 told-few t = omega (arith, t .number-is)
-
--- One call more.
-pub called-more : {m m′ m″ : List ℕ} {calls : List Call} {answers : List Answer} {c : Call} {a : Answer} → CalledAll m calls answers m′ → Called m′ c a m″
-    → CalledAll m (calls ++ c ∷ []) (answers ++ a ∷ []) m″
-called-more none last = next last none
-called-more (next one more) last = next one (called-more more last)
 
 -- Calls on a memory that holds a line are answered as the line says, and it holds the line after them.
 pub called-line : {m m′ : List ℕ} {calls : List Call} {answers : List Answer} → CalledAll m calls answers m′ → (line : Line) → MemoryHolds m line
@@ -46,14 +41,14 @@ called-given (next one more) line h (suc k) g e = called-given more _ (one .line
 -- lawful profile.
 pub demand3 : {m₀ m m′ lent left : List ℕ} {l : Limits} {refusal told : ℕ} {calls : List Call} {answers : List Answer} {said : Answer}
     → Freshened m₀ l refusal m → refusal ≡ 0 → CalledAll m calls answers m′ → Told m′ told → Showed m′ lent said left
-    → Demand3 l calls answers told lent said left
+    → Demand3 (builtIn l) calls answers told lent said left
 demand3 {l} {calls} fresh passed called told showed =
     let begin = fresh .line passed in
-    let end = lineAfterAll (freshLine l) calls in
-    let run = called-line called (freshLine l) begin in
+    let end = lineAfterAll (freshLine (builtIn l)) calls in
+    let run = called-line called (freshLine (builtIn l)) begin in
     record {
       answered = run .0;
-      given = called-given called (freshLine l) begin;
+      given = called-given called (freshLine (builtIn l)) begin;
       number = told .line end (run .1);
       plan = showed .line end (run .1);
     }

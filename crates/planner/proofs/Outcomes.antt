@@ -10,6 +10,7 @@ use lib.ListN.{length}
 use Rattle.display.proofs.Answers.{then-first}
 use Rattle.display.specs.Display.{_then_}
 use Rattle.machine.specs.Checks.{limitsRefusal, blockRefusal}
+use Rattle.machine.specs.Numbers.{builtIn}
 use Rattle.machine.specs.declared.Block.{Block}
 use Rattle.machine.specs.declared.Limits.{Limits}
 use Rattle.line.specs.declared.Given.{Given}
@@ -28,6 +29,11 @@ accepted-not n e = let z : _≡_ {A = ℕ} 0 1 = cc in omega arith
 
 gave-not : (g : Given) (n : ℕ) → gave g ≡ refused n → ⊥
 gave-not g n e = let z : _≡_ {A = ℕ} 0 1 = cc in omega arith
+
+-- A definition by cases at a number above 0: a refusal, or a count of blocks.
+above-zero : (P : ℕ → Type 0) → ((k : ℕ) → P (suc k)) → (n : ℕ) → 0 < n → P n
+above-zero P e zero h = absurd (omega arith)
+above-zero P e (suc k) h = e k
 
 -- A call whose answer and memory are the ring's answers and leaves what the line says.
 called : (m m′ : List ℕ) (call : Call) (said : Answer) → length m′ ≡ memorySize → said ≡ ringAnswer (viewOf m) call → viewOf m′ ≡ ringAfter (viewOf m) call
@@ -48,14 +54,10 @@ module _ (m : List ℕ) (sized : length m ≡ memorySize) (l : Limits) where
       record {
         sized = sized;
         answer = e;
-        after = unchanged n h ∙ ap (λ (k : ℕ). freshIn k (viewOf m) l) e;
+        after = above-zero (λ k. viewOf m ≡ freshIn k (viewOf m) l) (λ k. refl) n h ∙ ap (λ (k : ℕ). freshIn k (viewOf m) l) e;
         unchanged = λ p. refl;
         line = λ z. absurd (omega arith);
       }
-    where
-      unchanged : (n : ℕ) → 0 < n → viewOf m ≡ freshIn n (viewOf m) l
-      unchanged zero h = absurd (omega arith)
-      unchanged (suc n) h = refl
 
   -- and accepted.
   pub fresh-made : (m′ : List ℕ) → length m′ ≡ memorySize → 0 ≡ limitsRefusal l → viewOf m′ ≡ freshIn 0 (viewOf m) l → Freshened m l 0 m′
@@ -65,22 +67,17 @@ module _ (m : List ℕ) (sized : length m ≡ memorySize) (l : Limits) where
         answer = e;
         after = v ∙ ap (λ (k : ℕ). freshIn k (viewOf m) l) e;
         unchanged = λ p. absurd (omega arith);
-        line = λ z. rw v (holds-fresh l (viewOf m .places) (sym e) (view-sized m));
+        line = λ z. rw v (holds-fresh (builtIn l) (viewOf m .places) (sym e) (view-sized m));
       }
 
 -- An add that is refused by a number changes nothing.
 refused-by : (m : List ℕ) (b : Block) (n : ℕ) → length m ≡ memorySize → 0 < n → n ≡ addRefusal (viewOf m .count) b → Called m (add b) (refused n) m
 unfolding ringAnswer ringAfter
 refused-by m b n sized h e =
-    called m m (add b) (refused n) sized (answered n h ∙ ap answerBy e) (unchanged n h ∙ ap (λ (k : ℕ). addedIn k (viewOf m) b) e) (λ k q. refl)
-  where
-    answered : (n : ℕ) → 0 < n → refused n ≡ answerBy n
-    answered zero h = absurd (omega arith)
-    answered (suc n) h = refl
-
-    unchanged : (n : ℕ) → 0 < n → viewOf m ≡ addedIn n (viewOf m) b
-    unchanged zero h = absurd (omega arith)
-    unchanged (suc n) h = refl
+    called m m (add b) (refused n) sized
+    (above-zero (λ k. refused k ≡ answerBy k) (λ k. refl) n h ∙ ap answerBy e)
+    (above-zero (λ k. viewOf m ≡ addedIn k (viewOf m) b) (λ k. refl) n h ∙ ap (λ (k : ℕ). addedIn k (viewOf m) b) e)
+    (λ k q. refl)
 
 module _ (m : List ℕ) (b : Block) (sized : length m ≡ memorySize) where
   -- The block is refused,
@@ -110,16 +107,10 @@ module _ (m : List ℕ) where
   pub take-gave : (given : Given) (m′ : List ℕ) → 0 < viewOf m .count → GaveFirst m given m′ → Called m take (gave given) m′
   unfolding ringAnswer ringAfter
   take-gave given m′ h g =
-      called m m′ take (gave given) (g .held .sized) (ap gave (g .given) ∙ answered (viewOf m .count) h) (g .held .view ∙ left (viewOf m .count) h)
+      called m m′ take (gave given) (g .held .sized)
+      (ap gave (g .given) ∙ above-zero (λ k. gave (givenIn (viewOf m)) ≡ takenAnswer k (viewOf m)) (λ k. refl) (viewOf m .count) h)
+      (g .held .view ∙ above-zero (λ k. takenFrom (viewOf m) ≡ takenIn k (viewOf m)) (λ k. refl) (viewOf m .count) h)
       (λ k q. absurd (gave-not given k q))
-    where
-      answered : (n : ℕ) → 0 < n → gave (givenIn (viewOf m)) ≡ takenAnswer n (viewOf m)
-      answered zero h = absurd (omega arith)
-      answered (suc n) h = refl
-
-      left : (n : ℕ) → 0 < n → takenFrom (viewOf m) ≡ takenIn n (viewOf m)
-      left zero h = absurd (omega arith)
-      left (suc n) h = refl
 
 -- A list of the right length gets the plan; any other stays as it is.
 module _ (m held : List ℕ) where

@@ -2,7 +2,7 @@
 use mathlib.Core.Bool.{Bool, true, false, cond}
 use mathlib.Core.List.{List, _∷_, _++_}
 use mathlib.Core.Path.{_≡_, refl, sym, ap, _∙_}
-use Prim.Native.Nat.{ℕ, suc, _+_, _-_, _*_, _/_, _%_, _^_, _≤_, _<_, min}
+use Prim.Native.Nat.{ℕ, suc, _+_, _-_, _/_, _%_, _^_, _≤_, _<_}
 use borrow.Author.Tests.{eq-eqb, ne-eqb, leb-true, leb-false}
 use native.Mathlib.Nat.{sub-zero, mod-lt}
 use native.Mathlib.Numerals.{add-one}
@@ -15,16 +15,18 @@ use lib.Signed.{mag}
 use Rattle.fields.proofs.Signed.{signed-range}
 use Rattle.fields.specs.Signed.{signedOf}
 use Rattle.machine.specs.Checks.{movesOf}
-use Rattle.machine.specs.Numbers.{AxesBelow, underCorner, cornerFrom, turnFrom, rampable, rampOf, noRamp, LimitsBelow, numbersOf}
+use Rattle.machine.specs.Labels.{labelledBlock}
+use Rattle.machine.specs.Numbers.{AxesBelow, LimitsBelow, junctionFrom, numbersOf}
 use Rattle.machine.specs.declared.Block.{Block}
 use Rattle.machine.specs.declared.Limits.{Limits}
+use Rattle.machine.specs.declared.Machine.{Machine}
 use Rattle.machine.specs.declared.Numbers.{Numbers}
-use Rattle.machine.specs.declared.Ramp.{Ramp}
+use Rattle.line.specs.Answers.{givenBetween}
 use Rattle.line.specs.Blocks.{mostHeld}
-use Rattle.line.specs.Ring.{cutLimits, placeOf, putLast, blockIn, numbersIn, junctionAfter, givenIn, takenFrom, speedsFrom, Place, Ring, placeAt, slot, brakeAt, withBrake, withPlace, walkBack}
+use Rattle.line.specs.Ring.{cutLimits, cutMachine, cutNumbers, placeOf, putLast, blockIn, numbersIn, junctionAfter, givenIn, takenFrom, speedsFrom, Place, Ring, placeAt, slot, brakeAt, withBrake, withPlace, walkBack}
 use Rattle.line.specs.declared.Given.{Given}
 use Rattle.planner.specs.Calls.{brakeIn, exitIn}
-use Rattle.planner.specs.View.{numbersFor, memorySize, placeSize, baseOf, placeFrom, viewOf}
+use Rattle.planner.specs.View.{numbersFor, memorySize, placeSize, firstIndex, countIndex, committedIndex, brakeOffset, baseOf, lastBase, placeFrom, viewOf}
 use Rattle.planner.proofs.View.{view-put, view-count, view-moved, ring-place, view-brake}
 
 -- Where block k begins, from the place of the first block that was read before.
@@ -33,7 +35,7 @@ begins m first k at e p = p ∙ ap (λ (f : ℕ). baseOf ((f + k) % mostHeld)) (
 
 -- Where the block before block n begins, from where block n does.
 before-slot : (first k after : ℕ) (t : Bool) → leb after (baseOf 0) ≡ t → after ≡ baseOf ((first + suc k) % mostHeld)
-    → cond t (baseOf 63) (after - placeSize) ≡ baseOf ((first + k) % mostHeld)
+    → cond t (lastBase) (after - placeSize) ≡ baseOf ((first + k) % mostHeld)
 before-slot first k after true e p =
     let low = leb-true after (baseOf 0) e in
     let whole : (first + suc k) % mostHeld ≡ 0 = omega arith in
@@ -41,7 +43,7 @@ before-slot first k after true e p =
     omega arith
 before-slot first k after false e p = let high = leb-false after (baseOf 0) e in omega arith
 
-pub begins-before : (m : List ℕ) (n k after at : ℕ) → n ≡ suc k → after ≡ baseOf (slot (viewOf m) n) → at ≡ cond (leb after (baseOf 0)) (baseOf 63) (after - placeSize)
+pub begins-before : (m : List ℕ) (n k after at : ℕ) → n ≡ suc k → after ≡ baseOf (slot (viewOf m) n) → at ≡ cond (leb after (baseOf 0)) (lastBase) (after - placeSize)
     → at ≡ baseOf (slot (viewOf m) k)
 begins-before m n k after at one p q =
     q ∙ before-slot (viewOf m .first) k after (leb after (baseOf 0)) refl (p ∙ ap (λ (j : ℕ). baseOf (slot (viewOf m) j)) one)
@@ -58,55 +60,59 @@ module _ (m : List ℕ) (n k after at brake : ℕ) (one : n ≡ suc k)
   brake-is : brake ≡ brakeAt (viewOf m) (suc k)
   brake-is = brakes ∙ ap (λ (i : ℕ). brakeIn (placeFrom m i)) behind ∙ ap brakeIn (sym (ring-place m n)) ∙ ap (brakeAt (viewOf m)) one
 
-  kept-is : getD m (at + 11) 0 ≡ placeAt (viewOf m) k .brake
+  kept-is : getD m (at + brakeOffset) 0 ≡ placeAt (viewOf m) k .brake
   unfolding placeFrom
-  kept-is = ap (λ (i : ℕ). getD m (i + 11) 0) here ∙ sym (ap (λ (p : Place). p .brake) (ring-place m k))
+  kept-is = ap (λ (i : ℕ). getD m (i + brakeOffset) 0) here ∙ sym (ap (λ (p : Place). p .brake) (ring-place m k))
 
   -- It ends where the brake is there already,
-  pub walk-ends : getD m (at + 11) 0 ≡ brake → viewOf m ≡ walkBack n (viewOf m)
+  pub walk-ends : getD m (at + brakeOffset) 0 ≡ brake → viewOf m ≡ walkBack n (viewOf m)
   walk-ends e = rw one (sym (walk-step k (viewOf m) true (eq-eqb _ _ (sym kept-is ∙ e ∙ brake-is))))
 
   -- and goes on where it is not.
-  pub walk-goes-on : length m ≡ memorySize → (getD m (at + 11) 0 ≡ brake → ⊥) → walkBack k (viewOf (set m (at + 11) brake)) ≡ walkBack n (viewOf m)
+  pub walk-goes-on : length m ≡ memorySize → (getD m (at + brakeOffset) 0 ≡ brake → ⊥) → walkBack k (viewOf (set m (at + brakeOffset) brake)) ≡ walkBack n (viewOf m)
   walk-goes-on sized e =
-      ap (walkBack k) ((λ i. viewOf (set m (here i + 11) (brake-is i))) ∙ view-brake m k (brakeAt (viewOf m) (suc k)) sized)
+      ap (walkBack k) ((λ i. viewOf (set m (here i + brakeOffset) (brake-is i))) ∙ view-brake m k (brakeAt (viewOf m) (suc k)) sized)
       ∙ sym (walk-step k (viewOf m) false (ne-eqb _ _ (λ q. e (kept-is ∙ q ∙ sym brake-is))))
       ∙ ap (λ (j : ℕ). walkBack j (viewOf m)) (sym one)
 
-  pub walk-first : length m ≡ memorySize → viewOf (set m (at + 11) brake) .first ≡ viewOf m .first
-  walk-first sized = (λ i. viewOf (set m (here i + 11) brake) .first) ∙ ap (λ (r : Ring). r .first) (view-brake m k brake sized)
+  pub walk-first : length m ≡ memorySize → viewOf (set m (at + brakeOffset) brake) .first ≡ viewOf m .first
+  walk-first sized = (λ i. viewOf (set m (here i + brakeOffset) brake) .first) ∙ ap (λ (r : Ring). r .first) (view-brake m k brake sized)
 
 -- The junction between the last block held, whose place begins at `at`, and a new one.
-module _ (m : List ℕ) (at : ℕ) (l : Limits) (b : Block) (n : Numbers) (here : at ≡ baseOf (slot (viewOf m) (viewOf m .count - 1))) where
-  pub junction-is : (r cap : ℕ) (before : Block) → (viewOf m .count ≡ 0 → ⊥) → cap ≡ min (placeFrom m at .cap) (n .cap) → before ≡ blockIn (placeFrom m at)
-      → r ≡ underCorner (cornerFrom (l .jump) (placeFrom m at .length % 2 ^ 30 * n .length) (turnFrom (placeFrom m at .length % 2 ^ 30 * n .length) before b)) cap
-      → r ≡ cond (eqb (viewOf m .count) 0) 0 (junctionAfter l (placeAt (viewOf m) (viewOf m .count - 1)) b n)
-  unfolding junctionAfter
-  junction-is r cap before some e f g =
-      g
-      ∙ (λ i. underCorner (cornerFrom (l .jump) (placeFrom m at .length % 2 ^ 30 * n .length) (turnFrom (placeFrom m at .length % 2 ^ 30 * n .length) (f i) b)) (e i))
-      ∙ ap (λ (p : Place). junctionAfter l p b n) (ap (placeFrom m) here ∙ sym (ring-place m (viewOf m .count - 1)))
-      ∙ sym (ap (λ (t : Bool). cond t 0 (junctionAfter l (placeAt (viewOf m) (viewOf m .count - 1)) b n)) (ne-eqb _ _ some))
+pub junction-is : (m : List ℕ) (at jump : ℕ) (b : Block) (n : Numbers) (r : ℕ) (before : Block) (held : Numbers) → at ≡ baseOf (slot (viewOf m) (viewOf m .count - 1))
+    → (viewOf m .count ≡ 0 → ⊥) → before ≡ blockIn (placeFrom m at) → held ≡ cutNumbers (placeFrom m at) → r ≡ junctionFrom jump before held b n
+    → r ≡ cond (eqb (viewOf m .count) 0) 0 (junctionAfter jump (placeAt (viewOf m) (viewOf m .count - 1)) b n)
+unfolding junctionAfter
+junction-is m at jump b n r before held here some e f g =
+    g
+    ∙ (λ i. junctionFrom jump (e i) (f i) b n)
+    ∙ ap (λ (p : Place). junctionAfter jump p b n) (ap (placeFrom m) here ∙ sym (ring-place m (viewOf m .count - 1)))
+    ∙ sym (ap (λ (t : Bool). cond t 0 (junctionAfter jump (placeAt (viewOf m) (viewOf m .count - 1)) b n)) (ne-eqb _ _ some))
 
 -- A run of stores keeps the memory's size.
 pub still-sized : (m m₁ : List ℕ) (at : ℕ) (vs : List ℕ) → length m ≡ memorySize → m₁ ≡ sets m at vs → length m₁ ≡ memorySize
 still-sized m m₁ at vs sized e = ap length e ∙ length-sets m at vs ∙ sized
 
 -- A block put last: its place, then the count, then the walk back.
-pub put-is : (m m₁ : List ℕ) (l : Limits) (b : Block) (n : Numbers) (junction at : ℕ) → length m ≡ memorySize
-    → l ≡ cutLimits (viewOf m .limits) → n ≡ numbersOf l b
-    → junction ≡ cond (eqb (viewOf m .count) 0) 0 (junctionAfter l (placeAt (viewOf m) (viewOf m .count - 1)) b n)
+pub put-is : (m m₁ : List ℕ) (of : Machine) (b : Block) (n : Numbers) (junction at : ℕ) → length m ≡ memorySize
+    → of ≡ cutMachine (viewOf m .machine) → n ≡ numbersOf of b
+    → junction ≡ cond (eqb (viewOf m .count) 0) 0 (junctionAfter (of .limits .jump) (placeAt (viewOf m) (viewOf m .count - 1)) b n)
     → at ≡ baseOf (slot (viewOf m) (viewOf m .count)) → m₁ ≡ sets m at (numbersFor (placeOf b n junction))
-    → walkBack (viewOf m .count) (viewOf (set m₁ 10 (viewOf m .count + 1))) ≡ putLast (viewOf m) b
+    → walkBack (viewOf m .count) (viewOf (set m₁ countIndex (viewOf m .count + 1))) ≡ putLast (viewOf m) b
 unfolding putLast
-put-is m m₁ l b n junction at sized le ne je here stored =
+put-is m m₁ of b n junction at sized le ne je here stored =
     let count = viewOf m .count in
-    let numbers = ne ∙ ap (λ (x : Limits). numbersOf x b) le in
-    let joined = je ∙ (λ i. cond (eqb count 0) 0 (junctionAfter (le i) (placeAt (viewOf m) (count - 1)) b (numbers i))) in
+    let numbers = ne ∙ ap (λ (x : Machine). numbersOf x b) le in
+    let joined = je ∙ (λ i. cond (eqb count 0) 0 (junctionAfter (le i .limits .jump) (placeAt (viewOf m) (count - 1)) b (numbers i))) in
     let put = ap viewOf stored ∙ (λ i. viewOf (sets m (here i) (numbersFor (placeOf b (numbers i) (joined i))))) ∙ view-put m count _ sized in
     ap (walkBack count)
     (view-count m₁ (count + 1) (still-sized m m₁ at (numbersFor (placeOf b n junction)) sized stored)
-    ∙ (λ i. record { limits = put i .limits; first = put i .first; count = count + 1; committed = put i .committed; places = put i .places }))
+    ∙ (λ i. record { machine = put i .machine; first = put i .first; count = count + 1; committed = put i .committed; places = put i .places }))
+
+-- A place's block, from its moves.
+pub block-is : (p : Place) (b : Block) (x y z : ℤ) → b ≡ labelledBlock x y z (p .feed) (p .radius) (p .label)
+    → x ≡ signedOf 21 (p .x) → y ≡ signedOf 21 (p .y) → z ≡ signedOf 21 (p .z) → b ≡ blockIn p
+block-is p b x y z e ex ey ez = e ∙ (λ i. labelledBlock (ex i) (ey i) (ez i) (p .feed) (p .radius) (p .label))
 
 -- A move of 21 bits is below 2^21, either way.
 natAbs-mag : (z : ℤ) → natAbs z ≤ mag z + 1
@@ -117,6 +123,7 @@ move-below : (v : ℕ) → natAbs (signedOf 21 v) < 2 ^ 21
 move-below v = omega (arith, natAbs-mag (signedOf 21 v), signed-range 21 v (lit< tt))
 
 pub moves-in : (p : Place) → AxesBelow (2 ^ 21) (movesOf (blockIn p))
+unfolding labelledBlock
 moves-in p = (move-below (p .x), move-below (p .y), move-below (p .z))
 
 -- The first block, whose place begins at `at`, and its exit.
@@ -128,31 +135,20 @@ module _ (m : List ℕ) (at exit : ℕ) (here : at ≡ baseOf (slot (viewOf m) 0
   exit-is = leaves ∙ ap (λ (p : Place). exitIn p (viewOf m .committed)) first-is
 
   -- given out
-  pub given-is : (b : Block) (n : Numbers) (ramp : Ramp) → b ≡ blockIn (placeFrom m at) → n ≡ numbersIn (placeFrom m at)
-      → ramp ≡ cond (rampable n (viewOf m .committed) exit) (rampOf n (viewOf m .committed) exit) noRamp
-      → _≡_ {A = Given} (record { block = b; length = n .length; accel = n .accel; entry = viewOf m .committed; exit = exit; ramp = ramp }) (givenIn (viewOf m))
+  pub given-is : (out : Given) (b : Block) (n : Numbers) → b ≡ blockIn (placeFrom m at) → n ≡ numbersIn (placeFrom m at) → out ≡ givenBetween b n (viewOf m .committed) exit
+      → out ≡ givenIn (viewOf m)
   unfolding givenIn
-  given-is b n ramp e f g =
-      let numbers = f ∙ ap numbersIn first-is in
-      λ i.
-      record {
-        block = (e ∙ ap blockIn first-is) i;
-        length = numbers i .length;
-        accel = numbers i .accel;
-        entry = viewOf m .committed;
-        exit = exit-is i;
-        ramp = (g ∙ (λ j. cond (rampable (numbers j) (viewOf m .committed) (exit-is j)) (rampOf (numbers j) (viewOf m .committed) (exit-is j)) noRamp)) i;
-      }
+  given-is out b n e f g = g ∙ (λ i. givenBetween ((e ∙ ap blockIn first-is) i) ((f ∙ ap numbersIn first-is) i) (viewOf m .committed) (exit-is i))
 
   -- and what is held after it
   pub taken-is : length m ≡ memorySize
-      → viewOf (set (set (set m 9 ((viewOf m .first % mostHeld + 1) % mostHeld)) 10 (viewOf m .count - 1)) 11 exit) ≡ takenFrom (viewOf m)
+      → viewOf (set (set (set m firstIndex ((viewOf m .first % mostHeld + 1) % mostHeld)) countIndex (viewOf m .count - 1)) committedIndex exit) ≡ takenFrom (viewOf m)
   unfolding takenFrom
   taken-is sized =
       view-moved m _ _ _ sized
       ∙ (λ i.
       record {
-        limits = viewOf m .limits;
+        machine = viewOf m .machine;
         first = turned (viewOf m .first) i;
         count = viewOf m .count - 1;
         committed = exit-is i;

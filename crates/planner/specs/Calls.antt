@@ -5,6 +5,7 @@ use Prim.Native.Nat.{ℕ, zero, suc, _<_}
 use lib.ListN.{length}
 use Rattle.profile.specs.Passes.{brakeFrom, exitFrom}
 use Rattle.machine.specs.Checks.{limitsRefusal}
+use Rattle.machine.specs.Numbers.{builtIn}
 use Rattle.machine.specs.declared.Limits.{Limits}
 use Rattle.line.specs.Answers.{Answer, refused, answerBy}
 use Rattle.line.specs.Blocks.{Call, Line, freshLine, lineAnswer, lineAfter}
@@ -35,6 +36,10 @@ pub record GaveFirst (entry : List ℕ) (out : Given) (exit : List ℕ) : Type 0
 abbrev pub MemoryHolds : List ℕ → Line → Type 0
 MemoryHolds m line = Holds (viewOf m) line
 
+-- what is so of every line of blocks that a memory holds
+abbrev pub ForLine : List ℕ → (Line → Type 0) → Type 0
+ForLine m P = (line : Line) → MemoryHolds m line → P line
+
 -- An add or a take. The view determines every number of the memory: the law `view-determines`. A refusal leaves each as it was.
 -- For every line of blocks that the memory holds, the line says what is answered and which line is held afterwards.
 pub record Called (entry : List ℕ) (call : Call) (said : Answer) (exit : List ℕ) : Type 0 where
@@ -42,7 +47,7 @@ pub record Called (entry : List ℕ) (call : Call) (said : Answer) (exit : List 
   pub answer : said ≡ ringAnswer (viewOf entry) call
   pub after : viewOf exit ≡ ringAfter (viewOf entry) call
   pub unchanged : (n : ℕ) → said ≡ refused n → exit ≡ entry
-  pub line : (line : Line) → MemoryHolds entry line → (said ≡ lineAnswer line call) × MemoryHolds exit (lineAfter line call)
+  pub line : ForLine entry (λ line. (said ≡ lineAnswer line call) × MemoryHolds exit (lineAfter line call))
 
 -- Adds and takes one after the other, each on the memory that the one before it left, with their answers.
 pub data CalledAll : (memory : List ℕ) (calls : List Call) (answers : List Answer) (memory′ : List ℕ) → Type 0 where
@@ -50,9 +55,9 @@ pub data CalledAll : (memory : List ℕ) (calls : List Call) (answers : List Ans
   next : {m m′ m″ : List ℕ} {c : Call} {a : Answer} {calls : List Call} {answers : List Answer} → Called m c a m′ → CalledAll m′ calls answers m″
       → CalledAll m (c ∷ calls) (a ∷ answers) m″
 
--- A fresh planner, or refusal 1 and no change.
+-- A fresh planner of a machine with the built-in torque, or refusal 1 and no change.
 abbrev pub freshIn : (refusal : ℕ) → Ring → Limits → Ring
-freshIn zero r l = freshRing l (r .places)
+freshIn zero r l = freshRing (builtIn l) (r .places)
 freshIn (suc n) r l = r
 
 pub record Freshened (entry : List ℕ) (l : Limits) (refusal : ℕ) (exit : List ℕ) : Type 0 where
@@ -60,7 +65,7 @@ pub record Freshened (entry : List ℕ) (l : Limits) (refusal : ℕ) (exit : Lis
   pub answer : refusal ≡ limitsRefusal l
   pub after : viewOf exit ≡ freshIn (limitsRefusal l) (viewOf entry) l
   pub unchanged : 0 < refusal → exit ≡ entry
-  pub line : refusal ≡ 0 → MemoryHolds exit (freshLine l)
+  pub line : refusal ≡ 0 → MemoryHolds exit (freshLine (builtIn l))
 
 -- The plan in a lent list, or refusal 11 and no change.
 abbrev pub shownList : (refusal : ℕ) → Ring → List ℕ → List ℕ
@@ -71,9 +76,9 @@ pub record Showed (memory held : List ℕ) (said : Answer) (exit : List ℕ) : T
   pub answer : said ≡ answerBy (showRefusal (viewOf memory) (length held))
   pub list : exit ≡ shownList (showRefusal (viewOf memory) (length held)) (viewOf memory) held
   pub unchanged : (n : ℕ) → said ≡ refused n → exit ≡ held
-  pub line : (line : Line) → MemoryHolds memory line → ShownOf line held said exit
+  pub line : ForLine memory (λ line. ShownOf line held said exit)
 
 -- The number of blocks held.
 pub record Told (memory : List ℕ) (number : ℕ) : Type 0 where
   pub number-is : number ≡ toldOf (viewOf memory)
-  pub line : (line : Line) → MemoryHolds memory line → number ≡ length (line .blocks)
+  pub line : ForLine memory (λ line. number ≡ length (line .blocks))

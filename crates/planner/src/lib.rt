@@ -1,13 +1,15 @@
-// A planner of at most 64 blocks in 780 numbers that the caller lends. Every content of the memory
+// A planner of at most `PLACES` blocks in `NUMBERS` numbers that the caller lends. Every content of the memory
 // is answered: nothing is required of it. What the calls answer and leave is in specs/Calls.antt.
 ghost use lib.ListN.{replicate};
 ghost use Rattle.display.specs.Display.{checkedMeans};
-ghost use Rattle.line.specs.Answers.{addMeans, showMeans, takeMeans};
+ghost use Rattle.line.specs.Answers.{addMeans, answerMeans, showMeans, takeMeans};
 ghost use Rattle.line.specs.Blocks as blocks;
 ghost use Rattle.planner.specs.Calls.{Called, Freshened, Showed, Told};
 ghost use Rattle.planner.specs.View.{memorySize};
 use display::Checked;
 use line::AddAnswer;
+use line::Answer;
+use line::Call;
 use line::ShowAnswer;
 use line::TakeAnswer;
 use machine::Block;
@@ -17,7 +19,7 @@ mod memory;
 mod ring;
 
 // Numbers of a planner's memory.
-pub const NUMBERS: usize = 780;
+pub const NUMBERS: usize = memory::NUMBERS;
 
 // Makes a fresh planner of the limits; its places hold whatever they held. Refusal 1 changes
 // nothing.
@@ -41,6 +43,22 @@ pub fn take(memory: &mut [u64; NUMBERS]) -> TakeAnswer
     ring::take_in(memory)
 }
 
+// An add or a take, as a value.
+pub fn call(memory: &mut [u64; NUMBERS], c: Call) -> Answer
+    ensures { λ r. ⌜ Called (now (memory .entry)) (blocks.callMeans c) (answerMeans r) (now (memory .exit)) ⌝ }
+{
+    match c {
+        Call::Add(b) => match add(memory, b) {
+            AddAnswer::Added => Answer::Accepted,
+            AddAnswer::Refused(r) => Answer::Refused(r),
+        },
+        Call::Take => match take(memory) {
+            TakeAnswer::Given(g) => Answer::Gave(g),
+            TakeAnswer::Refused(r) => Answer::Refused(r),
+        },
+    }
+}
+
 // How many blocks are held.
 pub fn told(memory: &[u64; NUMBERS]) -> u64
     ensures { λ r. ⌜ Told (now (memory .entry)) r ⌝ }
@@ -62,7 +80,7 @@ pub struct Planner {
 }
 
 // The answer and the planner after it, of the limits, of an add and of a take. The planner of
-// refused limits is 780 zeros: it holds nothing, and is not to be used.
+// refused limits is all zeros: it holds nothing, and is not to be used.
 pub struct Made {
     pub answer: Checked,
     pub planner: Planner,

@@ -9,21 +9,20 @@ ghost use mathlib.Core.Bool.{cond};
 ghost use Rattle.machine.specs.Checks.{blockRefusal, movesOf};
 ghost use Rattle.machine.specs.Numbers.{AxesBelow};
 ghost use Rattle.line.specs.Answers.{addMeans, showMeans, takeMeans};
-ghost use Rattle.line.specs.Blocks.{add, take};
+ghost use Rattle.line.specs.Blocks.{add, mostHeld, take};
 ghost use Rattle.line.specs.Ring.{junctionAfter, placeAt, putLast, speedsFrom, walkBack};
 ghost use Rattle.planner.specs.Calls.{Called, Freshened, GaveFirst, Memory, Showed, Told};
 ghost use Rattle.planner.specs.View.{memorySize, viewOf};
 use crate::memory::BRAKE;
-use crate::memory::CAP;
 use crate::memory::COMMITTED;
 use crate::memory::COUNT;
 use crate::memory::FIRST;
-use crate::memory::LENGTH;
 use crate::memory::PLACES;
 use crate::memory::block_in;
 use crate::memory::brake_at;
+use crate::memory::cut_numbers_in;
 use crate::memory::exit_at;
-use crate::memory::limits_in;
+use crate::memory::machine_in;
 use crate::memory::numbers_in;
 use crate::memory::place;
 use crate::memory::place_before;
@@ -41,27 +40,24 @@ use machine::Limits;
 use machine::Numbers;
 use machine::check::check_block;
 use machine::check::check_limits;
-use machine::corner::under_corner;
+use machine::corner::junction_from;
 use machine::measure::numbers;
-use ramps::ramp_between;
-
-// Lengths of held blocks are used below this, µm.
-const LENGTH_END: u64 = 0x4000_0000;
+use machine::torque::built_in;
+use ramps::given_between;
 
 // The cap of the junction between the last block held and a new one, (µm/s)²; 0 where none is held.
-fn new_junction(memory: &[u64], l: Limits, b: Block, n: Numbers) -> u64
-    requires { ⌜ (length (now memory) ≡ memorySize) × (l .jump < 2 ^ 32) × (n .length < 2 ^ 30) × AxesBelow (2 ^ 21) (movesOf b) ⌝ }
-    ensures { λ r. ⌜ r ≡ cond (eqb (viewOf (now (memory .entry)) .count) 0) 0 (junctionAfter l (placeAt (viewOf (now (memory .entry))) (viewOf (now (memory .entry)) .count - 1)) b n) ⌝ }
+fn new_junction(memory: &[u64], jump: u64, b: Block, n: Numbers) -> u64
+    requires { ⌜ (length (now memory) ≡ memorySize) × (jump < 2 ^ 32) × (n .length < 2 ^ 30) × AxesBelow (2 ^ 21) (movesOf b) ⌝ }
+    ensures { λ r. ⌜ r ≡ cond (eqb (viewOf (now (memory .entry)) .count) 0) 0 (junctionAfter jump (placeAt (viewOf (now (memory .entry))) (viewOf (now (memory .entry)) .count - 1)) b n) ⌝ }
 {
     let count = memory[COUNT];
     if count == 0 {
         return 0;
     }
     let at = place(memory[FIRST], count - 1);
-    let cap = smaller(memory[at + CAP], n.cap);
     let before = block_in(memory, at);
-    let length = memory[at + LENGTH] % LENGTH_END;
-    under_corner(cap, l.jump, before, length, b, n.length)
+    let held = cut_numbers_in(memory, at);
+    junction_from(jump, before, held, b, n)
 }
 
 // The walk back from block `count`: each block before it gets its brake anew, until one has it already.
@@ -84,14 +80,15 @@ fn walk_back(memory: &mut [u64], count: u64)
     }
 }
 
-// Puts a block that passes 2 to 6 behind those held, of which there are less than 64.
+// Puts a block that passes 2 to 6 behind those held, which leave room for one.
 fn put_last(memory: &mut [u64], b: Block)
-    requires { ⌜ (length (now memory) ≡ memorySize) × (blockRefusal b ≡ 0) × (viewOf (now memory) .count < 64) ⌝ }
+    requires { ⌜ (length (now memory) ≡ memorySize) × (blockRefusal b ≡ 0) × (viewOf (now memory) .count < mostHeld) ⌝ }
     ensures { λ r. ⌜ Memory (putLast (viewOf (now (memory .entry))) b) (now (memory .exit)) ⌝ }
 {
-    let l = limits_in(memory);
-    let n = numbers(l, b);
-    let junction = new_junction(memory, l, b, n);
+    let m = machine_in(memory);
+    let l = m.limits;
+    let n = numbers(m, b);
+    let junction = new_junction(memory, l.jump, b, n);
     let count = memory[COUNT];
     let at = place(memory[FIRST], count);
     store_place(memory, at, b, n, junction);
@@ -125,21 +122,13 @@ fn give_first(memory: &mut [u64]) -> Given
     let count = memory[COUNT];
     let entry = memory[COMMITTED];
     let at = place(first, 0);
+    let block = block_in(memory, at);
     let n = numbers_in(memory, at);
     let exit = exit_at(memory, at, entry);
-    let ramp = ramp_between(n, entry, exit);
-    let block = block_in(memory, at);
     memory[FIRST] = (first % PLACES + 1) % PLACES;
     memory[COUNT] = count - 1;
     memory[COMMITTED] = exit;
-    Given {
-        block: block,
-        length: n.length,
-        accel: n.accel,
-        entry: entry,
-        exit: exit,
-        ramp: ramp,
-    }
+    given_between(block, n, entry, exit)
 }
 
 // Takes the first block, or refuses by 8.
@@ -198,7 +187,7 @@ pub fn fresh_in(memory: &mut [u64], l: Limits) -> Checked
     match check_limits(l) {
         Checked::Refused(r) => Checked::Refused(r),
         Checked::Passed => {
-            store_fresh(memory, l);
+            store_fresh(memory, built_in(l));
             Checked::Passed
         }
     }

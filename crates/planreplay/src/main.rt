@@ -80,7 +80,7 @@ fn run_next(chunk: &mut [u8], memory: &mut [u64; NUMBERS], text: &mut [u8; TEXT]
     }
 }
 
-// The same with a chunk of 300 calls.
+// The same with a whole chunk.
 fn run_chunk(chunk: &mut [u8; CHUNK], memory: &mut [u64; NUMBERS], text: &mut [u8; TEXT]) -> Turn
     ensures { λ r. ⌜ turnBytes r ≤ chunkBytes ⌝ }
 {

@@ -56,7 +56,7 @@ unfolding brake
 brake-longer [] more = zero-le
 brake-longer (s ∷ line) more = omega (arith, brake-longer line more)
 
--- Steps added last keep `CanBrake`, whatever they are.
+-- Spans added last keep `CanBrake`, whatever they are.
 pub add-keeps : (committed : ℕ) (line more : List Span) → CanBrake committed line → CanBrake committed (line ++ more)
 unfolding startLimit
 add-keeps committed [] more h = omega arith
@@ -66,7 +66,7 @@ add-keeps committed (s ∷ line) more h = omega (arith, brake-longer line more)
 pub exit-keeps : (entry : ℕ) (s : Span) (rest : List Span) → CanBrake (exitOf entry s rest) rest
 exit-keeps entry s rest = omega (arith, brake-start rest)
 
--- Steps added last that leave the backward pass at junction j as it was leave it so at every junction before.
+-- Spans added last that leave the backward pass at junction j as it was leave it so at every junction before.
 pub brake-same : (line more : List Span) (i j : ℕ) → i ≤ j → j ≤ length line
     → brake (drop j (line ++ more)) ≡ brake (drop j line) → brake (drop i (line ++ more)) ≡ brake (drop i line)
 brake-same line more i j h p e =

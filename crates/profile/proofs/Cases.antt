@@ -6,15 +6,15 @@ use Prim.Native.Nat.{ℕ}
 use Rattle.profile.specs.Line.{Span}
 use Rattle.profile.specs.Passes.{brake, startLimit, forward, planOf}
 
-abbrev step : ℕ → ℕ → Span
-step c r = record { cap = c; reach = r }
+abbrev span : ℕ → ℕ → Span
+span c r = record { cap = c; reach = r }
 
 -- One block; two straight on; two at a right angle; a line whose junctions are held in turn by the forward pass, a cap and
 -- the backward pass; a committed squared speed from which there is no lawful profile.
-plans : (planOf 0 (step 0 400_000_000 ∷ []) ≡ 0 ∷ 0 ∷ [])
-    × (planOf 0 (step 0 400_000_000 ∷ step 400_000_000 400_000_000 ∷ []) ≡ 0 ∷ 400_000_000 ∷ 0 ∷ [])
-    × (planOf 0 (step 0 400_000_000 ∷ step 2_000_000 400_000_000 ∷ []) ≡ 0 ∷ 2_000_000 ∷ 0 ∷ [])
-    × (planOf 1 (step 0 4 ∷ step 9 4 ∷ step 6 4 ∷ step 9 3 ∷ []) ≡ 1 ∷ 5 ∷ 6 ∷ 3 ∷ 0 ∷ [])
-    × (planOf 5 (step 0 4 ∷ []) ≡ 0 ∷ 0 ∷ [])
+plans : (planOf 0 (span 0 400_000_000 ∷ []) ≡ 0 ∷ 0 ∷ [])
+    × (planOf 0 (span 0 400_000_000 ∷ span 400_000_000 400_000_000 ∷ []) ≡ 0 ∷ 400_000_000 ∷ 0 ∷ [])
+    × (planOf 0 (span 0 400_000_000 ∷ span 2_000_000 400_000_000 ∷ []) ≡ 0 ∷ 2_000_000 ∷ 0 ∷ [])
+    × (planOf 1 (span 0 4 ∷ span 9 4 ∷ span 6 4 ∷ span 9 3 ∷ []) ≡ 1 ∷ 5 ∷ 6 ∷ 3 ∷ 0 ∷ [])
+    × (planOf 5 (span 0 4 ∷ []) ≡ 0 ∷ 0 ∷ [])
 unfolding brake startLimit forward planOf
 plans = (refl, refl, refl, refl, refl)

@@ -8,7 +8,7 @@ use native.Mathlib.Omega.{arith}
 use native.Mathlib.Decide.{decLe}
 use lib.ListN.{length, drop, replicate}
 use lib.Seq.{ext-getD}
-use Rattle.profile.specs.Line.{Span, capAt, numberAt, Lawful, Highest}
+use Rattle.profile.specs.Line.{Span, numberAt, Lawful, Highest}
 use Rattle.profile.specs.Passes.{brake, startLimit, CanBrake, planOf}
 use Rattle.profile.proofs.Brake.{down, brake-drop, brake-cap, startLimit-drop, startLimit-end}
 use Rattle.profile.proofs.Plan.{plan-first, plan-next, plan-keeps, plan-length, plan-none}
@@ -72,17 +72,6 @@ module _ (committed : ℕ) (line : List Span) (h : CanBrake committed line) wher
   pub plan-highest : Highest committed line (planOf committed line)
   plan-highest = record { lawful = plan-lawful; above = plan-above }
 
-  -- The plan stays under a bound that the committed squared speed and the caps stay under.
-  pub plan-bounded : (bound : ℕ) → committed ≤ bound → ((k : ℕ) → 0 < k → k < length line → capAt line k ≤ bound)
-      → (k : ℕ) → k ≤ length line → numberAt (planOf committed line) k ≤ bound
-  plan-bounded bound b caps zero i = omega (arith, plan-first committed line h)
-  plan-bounded bound b caps (suc k) i = elim (decLe (length line) (suc k)) [
-    | yes r ↦
-        let end : suc k ≡ length line = omega arith in
-        rw end (omega (arith, plan-ends))
-    | no r ↦ omega (arith, plan-lawful .capped (suc k) (omega arith) (omega arith), caps (suc k) (omega arith) (omega arith))
-  ]
-
 -- Two highest lawful profiles are the same list.
 pub highest-unique : (committed : ℕ) (line : List Span) (one two : List ℕ) → Highest committed line one → Highest committed line two → one ≡ two
 highest-unique committed line one two a b =
@@ -90,12 +79,6 @@ highest-unique committed line one two a b =
     λ k i.
     let inside : k ≤ length line = omega (arith, a .lawful .sized) in
     omega (arith, a .above two (b .lawful) k inside, b .above one (a .lawful) k inside)
-
--- A highest lawful profile is the plan.
-pub highest-plan : (committed : ℕ) (line : List Span) (profile : List ℕ) → Highest committed line profile → profile ≡ planOf committed line
-highest-plan committed line profile a =
-    highest-unique committed line profile (planOf committed line) a
-    (plan-highest committed line (lawful-canBrake committed line profile (a .lawful)))
 
 -- The plan is the highest lawful profile, or there is no lawful profile and the plan is zeros.
 pub highest-or-none : (committed : ℕ) (line : List Span)

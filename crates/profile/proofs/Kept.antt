@@ -1,5 +1,5 @@
 -- Numbers kept for the junctions of a line, for any store that reads them by an index: how they come to be the backward
--- pass's (`Braked`) and the plan's (`Planned`), and what stays right when a step is added or taken. From the laws of the passes.
+-- pass's (`Braked`) and the plan's (`Planned`), and what stays right when a span is added or taken. From the laws of the passes.
 use mathlib.Core.Logic.{_≢_}
 use mathlib.Core.Path.{_≡_, refl, _∙_, sym}
 use mathlib.Core.List.{List, _∷_, _++_, []}
@@ -11,7 +11,7 @@ use lib.ListN.{length, drop, length-drop, length-append}
 use lib.Seq.{ext-getD, drop-drop}
 use Rattle.profile.specs.Line.{Span, capAt, reachAt, numberAt}
 use Rattle.profile.specs.Passes.{brake, brakeFrom, exitFrom, CanBrake, planOf, Braked, Planned}
-use Rattle.profile.proofs.Brake.{down, brake-drop, brake-end, brake-same}
+use Rattle.profile.proofs.Brake.{brake-drop, brake-end, brake-same}
 use Rattle.profile.proofs.Plan.{plan-first, plan-next, plan-length}
 
 module _ (line : List Span) (kept : ℕ → ℕ) where
@@ -31,25 +31,16 @@ module _ (line : List Span) (kept : ℕ → ℕ) where
         rw here (omega (arith, e, brake-drop line k h, b (k + 1) (omega arith) (omega arith)))
   ]
 
-  -- Kept numbers are right if the last is 0 and each other is right by its neighbour.
-  pub braked-links : (first : ℕ) → kept (length line) ≡ 0
-      → ((k : ℕ) → first ≤ k → k < length line → kept k ≡ brakeFrom (capAt line k) (reachAt line k) (kept (k + 1))) → Braked line kept first
-  braked-links first e links i p q =
-      down (λ k. first ≤ k → Braked line kept k) (length line)
-      (λ r. braked-end e)
-      (λ k h b r. braked-store k kept h (links k r h) (λ j s t. refl) (b (omega arith)))
-      i q p i (le-refl i) q
-
   -- When the first block is given out, junction k becomes junction k - 1.
   pub braked-taken : (first : ℕ) → 0 < length line → Braked line kept (first + 1) → Braked (drop 1 line) (λ i. kept (i + 1)) first
   braked-taken first h b i p q = rw (drop-drop i 1 line, add-comm 1 i) (b (i + 1) (omega arith) (omega (arith, length-drop 1 line)))
 
--- The first step's cap plays no part after junction 0.
+-- The first span's cap plays no part after junction 0.
 pub braked-head : (s t : Span) (line : List Span) (kept : ℕ → ℕ) (first : ℕ) → 0 < first → Braked (s ∷ line) kept first → Braked (t ∷ line) kept first
 braked-head s t line kept first h b zero p q = omega arith
 braked-head s t line kept first h b (suc i) p q = b (suc i) p q
 
--- While a step is added last and the numbers from junction 1 on are made anew from the end: after junction k they are right
+-- While a span is added last and the numbers from junction 1 on are made anew from the end: after junction k they are right
 -- for the longer line, and up to k still for the shorter one.
 abbrev pub Extended : List Span → Span → (ℕ → ℕ) → ℕ → Type 0
 Extended line s kept k = ((i : ℕ) → 0 < i → i ≤ k → kept i ≡ brake (drop i line)) × Braked (line ++ (s ∷ [])) kept (k + 1)

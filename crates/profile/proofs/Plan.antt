@@ -24,13 +24,6 @@ unfolding forward
 forward-length entry [] = refl
 forward-length entry (s ∷ line) = omega (arith, forward-length (exitOf entry s line) line)
 
--- From a junction on it is the forward pass of the line from there.
-forward-drop : (entry : ℕ) (line : List Span) (k : ℕ) → k ≤ length line → drop k (forward entry line) ≡ forward (numberAt (forward entry line) k) (drop k line)
-unfolding forward
-forward-drop entry line zero h = rw forward-first
-forward-drop entry [] (suc k) h = absurd (not-suc-le-zero h)
-forward-drop entry (s ∷ line) (suc k) h = forward-drop (exitOf entry s line) line k (le-of-suc-le-suc h)
-
 forward-next′ : (entry : ℕ) (line : List Span) (k : ℕ) → k < length line
     → numberAt (forward entry line) (suc k) ≡ exitOf (numberAt (forward entry line) k) (spanAt line k) (drop (suc k) line)
 unfolding forward
@@ -81,19 +74,6 @@ module _ (committed : ℕ) (line : List Span) (h : CanBrake committed line) wher
       rw (← add-one k, plan-next k i)
       (exit-keeps (numberAt (planOf committed line) k) (spanAt line k) (drop (k + 1) line))
 
-  -- From a junction on, the plan is the plan of the line from there.
-  pub plan-drop : (k : ℕ) → k ≤ length line → drop k (planOf committed line) ≡ planOf (numberAt (planOf committed line) k) (drop k line)
-  plan-drop k i =
-      rw (plan-forward (numberAt (planOf committed line) k) (drop k line) (plan-keeps k i), plan-forward committed line h)
-      (forward-drop committed line k i)
-
--- The plan of a line is the committed squared speed, and then the plan of the rest from the first block's exit.
-pub plan-cons : (committed : ℕ) (s : Span) (line : List Span) → CanBrake committed (s ∷ line)
-    → planOf committed (s ∷ line) ≡ committed ∷ planOf (exitOf committed s line) line
-unfolding forward
-plan-cons committed s line h =
-    rw (plan-forward committed (s ∷ line) h, plan-forward (exitOf committed s line) line (exit-keeps committed s line))
-
 -- Where there is no plan each number is 0.
 pub none-number : (committed : ℕ) (line : List Span) → ¬ CanBrake committed line → (k : ℕ) → numberAt (planOf committed line) k ≡ 0
 none-number committed line h k = rw (plan-none committed line h) (zeros (length line + 1) k)
@@ -112,11 +92,7 @@ take-keeps committed line = pick line (decLe committed (startLimit line))
     pick [] (yes h) = omega (arith, List·getD-eq-default (planOf committed []) 0 {n = 1} (omega (arith, plan-length committed [])))
     pick (s ∷ l) (yes h) = plan-keeps committed (s ∷ l) h 1 (omega arith)
 
--- The first step's cap is never read: lines that differ there alone have the same start limit and the same plan.
+-- The first span's cap is never read: lines that differ there alone have the same start limit.
 pub startLimit-head : (s t : Span) (line : List Span) → s .reach ≡ t .reach → startLimit (s ∷ line) ≡ startLimit (t ∷ line)
 unfolding startLimit
 startLimit-head s t line e = rw e
-
-pub plan-head : (committed : ℕ) (s t : Span) (line : List Span) → s .reach ≡ t .reach → planOf committed (s ∷ line) ≡ planOf committed (t ∷ line)
-unfolding startLimit forward planOf
-plan-head committed s t line e = rw e

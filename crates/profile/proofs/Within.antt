@@ -6,7 +6,7 @@ use native.Mathlib.Numerals.{add-one}
 use native.Mathlib.Omega.{arith}
 use lib.ListN.{length, drop}
 use Rattle.profile.specs.Line.{Span, capAt, reachAt, totalReach, numberAt}
-use Rattle.profile.specs.Passes.{brake, CanBrake, planOf}
+use Rattle.profile.specs.Passes.{brake, CanBrake, exitOf, planOf}
 use Rattle.profile.proofs.Brake.{down, brake-drop, brake-end, brake-longer}
 use Rattle.profile.proofs.Plan.{plan-first, plan-next}
 
@@ -39,13 +39,27 @@ within-plan d committed one two w g h (suc k) i =
       within-brake d one two w (k + 1) (omega arith) (omega arith),
     ))
 
--- Blocks after a line raise its backward pass only above the reaches of its own blocks.
-brake-front : (speed : ℕ) (line more : List Span) → speed ≤ totalReach line → min speed (brake (line ++ more)) ≤ brake line
+-- No line brakes from more than its blocks' reaches total,
+pub brake-total : (line : List Span) → brake line ≤ totalReach line
+unfolding brake totalReach
+brake-total [] = omega arith
+brake-total (s ∷ line) = omega (arith, brake-total line)
+
+-- and blocks after it raise its backward pass only above that total.
+pub brake-front : (speed : ℕ) (line more : List Span) → speed ≤ totalReach line → min speed (brake (line ++ more)) ≤ brake line
 unfolding brake totalReach
 brake-front speed [] more h = omega arith
 brake-front speed (s ∷ line) more h = omega (arith, brake-front (speed - s .reach) line more (omega arith))
 
--- Where the reaches of a line's blocks total at least its first cap, blocks after it leave its backward pass as it is.
+-- Where the reaches total at least the line's first cap, blocks after it leave its backward pass as it is.
 pub brake-enough : (s : Span) (line more : List Span) → s .cap ≤ totalReach (s ∷ line) → brake ((s ∷ line) ++ more) ≡ brake (s ∷ line)
 unfolding brake
 brake-enough s line more h = omega (arith, brake-front (s .cap) (s ∷ line) more h, brake-longer (s ∷ line) more)
+
+-- A block's exit is that of the longer line if and only if the reaches of the blocks behind it total at least that exit.
+module _ (entry : ℕ) (s : Span) (rest more : List Span) where
+  pub exit-enough : exitOf entry s (rest ++ more) ≤ totalReach rest → exitOf entry s rest ≡ exitOf entry s (rest ++ more)
+  exit-enough h = omega (arith, brake-front (exitOf entry s (rest ++ more)) rest more h, brake-longer rest more)
+
+  pub exit-needs : exitOf entry s rest ≡ exitOf entry s (rest ++ more) → exitOf entry s (rest ++ more) ≤ totalReach rest
+  exit-needs e = omega (arith, brake-total rest)

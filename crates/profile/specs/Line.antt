@@ -6,7 +6,7 @@ use Prim.Native.Nat.{ℕ, _+_, _≤_, _<_}
 use lib.ListN.{length, getD}
 
 -- What a profile knows of one block: the junction cap where the block begins, and the block's reach.
--- The cap of a line's first step, at junction 0, is never read.
+-- The cap of a line's first span, at junction 0, is never read.
 pub record Span : Type 0 where
   pub cap : ℕ
   pub reach : ℕ

@@ -1,9 +1,12 @@
-// The ramp of a block between its entry and exit squared speeds.
+// A block given out with its ramp between its entry and exit squared speeds.
 ghost use mathlib.Core.Path.{_≡_};
 ghost use mathlib.Core.Bool.{cond};
 ghost use Rattle.machine.specs.Numbers.{Rampable, noRamp, rampOf, rampable, sized};
+ghost use Rattle.line.specs.Answers.{givenBetween};
 use arith::whole::less;
 use arith::whole::smaller;
+use line::Given;
+use machine::Block;
 use machine::Numbers;
 use machine::Ramp;
 use machine::measure::UNIT;
@@ -34,12 +37,8 @@ fn is_sized(n: Numbers, entry: u64, exit: u64) -> bool
     (accel & room) & capped
 }
 
-// The ramp between the entry and exit that a plan has at a block's ends, (µm/s)²; zeros for speeds that no plan has.
-// This is the one door to a ramp, for the two crates that take both speeds from a plan of their own: `planner` and
-// `listing`. A crate that does not list `ramps` in crates.txt cannot name this function, so it cannot make a ramp; that no
-// other crate lists it is tested (tests/run). The functions of the planner, of the tape's listing and for C take no speed.
-// The language has no narrower door: a function is seen by its own crate alone or by every crate that lists its crate.
-pub fn ramp_between(n: Numbers, entry: u64, exit: u64) -> Ramp
+// The ramp between two squared speeds, (µm/s)²; zeros for speeds that no plan has at a block's ends.
+fn ramp_between(n: Numbers, entry: u64, exit: u64) -> Ramp
     ensures { λ r. ⌜ r ≡ cond (rampable n entry exit) (rampOf n entry exit) noRamp ⌝ }
 {
     if is_sized(n, entry, exit) {
@@ -52,5 +51,23 @@ pub fn ramp_between(n: Numbers, entry: u64, exit: u64) -> Ramp
         up: 0,
         cruise: 0,
         down: 0,
+    }
+}
+
+// A block given out, from its numbers and the entry and exit that a plan has at its ends, (µm/s)².
+// This is the one door to a ramp, for the two crates that take both speeds from a plan of their own: `planner` and
+// `listing`. A crate that does not list `ramps` in crates.txt cannot name this function, so it cannot make a ramp; that no
+// other crate lists it is tested (tests/run). The functions of the planner, of the tape's listing and for C take no speed.
+// The language has no narrower door: a function is seen by its own crate alone or by every crate that lists its crate.
+pub fn given_between(b: Block, n: Numbers, entry: u64, exit: u64) -> Given
+    ensures { λ r. ⌜ r ≡ givenBetween b n entry exit ⌝ }
+{
+    Given {
+        block: b,
+        length: n.length,
+        accel: n.accel,
+        entry: entry,
+        exit: exit,
+        ramp: ramp_between(n, entry, exit),
     }
 }

@@ -15,7 +15,7 @@ use Rattle.line.specs.Blocks as line
 use Rattle.tape.specs.Tape.{limitsAt, zeroBits}
 use Rattle.tape.specs.Answers.{limitsFault}
 use Rattle.replay.specs.Trace.{blockOf, callOf, callsFrom, traceCalls, traceRefusal}
-use Rattle.replay.specs.Rows.{rowOf, rowsOf}
+use Rattle.replay.specs.Rows.{rowOf, eachOf, rowsOf}
 use Rattle.replay.specs.Replays.{replayRefusal}
 
 -- machine M
@@ -60,5 +60,5 @@ zero-limits = refl
 
 -- a refusal's row
 full : rowsOf (refused 7 ∷ []) ≡ 7 ∷ replicate 14 0
-unfolding rowsOf rowOf bitsOf
+unfolding eachOf rowOf bitsOf
 full = refl

@@ -8,6 +8,7 @@ use borrow.Author.Tests.{lt-ltb, le-ltb, ltb-false, eq-eqb, ne-eqb}
 use lib.Dec.{lit<, ltb, eqb}
 use lib.ListN.{length}
 use Rattle.machine.specs.Checks.{limitsRefusal}
+use Rattle.machine.specs.Numbers.{builtIn}
 use Rattle.machine.specs.declared.Limits.{Limits}
 use Rattle.display.specs.declared.Refusal.{Refusal}
 use Rattle.display.specs.declared.Refusal.the-variants as why
@@ -85,7 +86,7 @@ module _ (trace answers plan : List ℕ) where
 
   -- run
   pub trace-run : {answers′ plan′ : List ℕ} (told : ℕ) → traceRefusal trace ≡ 0 → length answers ≡ rowSize * callsIn trace → length plan ≡ planSize
-      → Demanded (limitsAt trace) (traceCalls trace) told answers′ plan plan′ → Replays trace answers plan (Done told) answers′ plan′
+      → Demanded (builtIn (limitsAt trace)) (traceCalls trace) told answers′ plan plan′ → Replays trace answers plan (Done told) answers′ plan′
   unfolding replayRefusal
   trace-run told e a p d =
       record {

@@ -6,7 +6,8 @@ use Prim.Native.Nat.{ℕ, _+_, _*_, _<_}
 use lib.Dec.{eqb}
 use lib.ListN.{length, take, drop}
 use Rattle.display.specs.Display.{refusalNumber, _then_}
-use Rattle.machine.specs.declared.Limits.{Limits}
+use Rattle.machine.specs.Numbers.{builtIn}
+use Rattle.machine.specs.declared.Machine.{Machine}
 use Rattle.line.specs.Answers.{Answer, accepted}
 use Rattle.line.specs.Blocks.{mostHeld, Call}
 use Rattle.line.specs.Demand.{Demand3}
@@ -37,12 +38,12 @@ abbrev pub toldIn : Replayed → ℕ
 toldIn (Done told) = told
 toldIn (Refused why) = 0
 
--- Calls that were run from a fresh planner with limits l: answers′ are the rows of what the planner answered; its answers, the number
+-- Calls that were run from a fresh planner of machine m: answers′ are the rows of what the planner answered; its answers, the number
 -- told and the first numbers of plan′ meet demand 3; the others are as they were in plan.
-pub record Demanded (l : Limits) (calls : List Call) (told : ℕ) (answers′ plan plan′ : List ℕ) : Type 0 where
+pub record Demanded (m : Machine) (calls : List Call) (told : ℕ) (answers′ plan plan′ : List ℕ) : Type 0 where
   pub answers : List Answer
   pub rows : answers′ ≡ rowsOf answers
-  pub demand : Demand3 l calls answers told (take (told + 1) plan) accepted (take (told + 1) plan′)
+  pub demand : Demand3 m calls answers told (take (told + 1) plan) accepted (take (told + 1) plan′)
   pub rest : drop (told + 1) plan′ ≡ drop (told + 1) plan
 
 -- Both lists as they were.
@@ -53,5 +54,5 @@ pub record Unchanged (answers plan answers′ plan′ : List ℕ) : Type 0 where
 -- A trace that is run, or refused.
 pub record Replays (trace answers plan : List ℕ) (r : Replayed) (answers′ plan′ : List ℕ) : Type 0 where
   pub number : replayedMeans r ≡ replayRefusal trace (length answers) (length plan)
-  pub run : replayedMeans r ≡ 0 → Demanded (limitsAt trace) (traceCalls trace) (toldIn r) answers′ plan plan′
+  pub run : replayedMeans r ≡ 0 → Demanded (builtIn (limitsAt trace)) (traceCalls trace) (toldIn r) answers′ plan plan′
   pub refused : 0 < replayedMeans r → Unchanged answers plan answers′ plan′

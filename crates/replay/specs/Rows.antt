@@ -1,9 +1,8 @@
--- An answer as a row of 15 numbers.
+-- An answer as a row of numbers.
 use Prim.Native.Nat.{ℕ}
 use mathlib.Core.List.{List, _∷_, _++_, []}
-use lib.IntN.{pos}
 use Rattle.fields.specs.Signed.{bitsOf}
-use Rattle.line.specs.Answers.{Answer, accepted, gave, refused}
+use Rattle.line.specs.Answers.{Answer, accepted, gave, refused, givenNumbers, noGiven}
 use Rattle.line.specs.declared.Given.{Given}
 use Rattle.replay.specs.Trace.{wordBits}
 
@@ -18,37 +17,19 @@ rowFrom number g =
     ∷ bitsOf wordBits (g .block .x)
     ∷ bitsOf wordBits (g .block .y)
     ∷ bitsOf wordBits (g .block .z)
-    ∷ g .block .feed
-    ∷ g .block .radius
-    ∷ g .block .mark
-    ∷ g .length
-    ∷ g .accel
-    ∷ g .entry
-    ∷ g .exit
-    ∷ g .ramp .peak
-    ∷ g .ramp .up
-    ∷ g .ramp .cruise
-    ∷ g .ramp .down
-    ∷ []
+    ∷ givenNumbers g
 
--- what a row has where no block is given out: zeros
-abbrev pub noneGiven : Given
-noneGiven =
-    record {
-      block = record { x = pos 0; y = pos 0; z = pos 0; feed = 0; radius = 0; mark = 0 };
-      length = 0;
-      accel = 0;
-      entry = 0;
-      exit = 0;
-      ramp = record { peak = 0; up = 0; cruise = 0; down = 0 };
-    }
-
+-- where no block is given out, zeros
 unfoldable pub rowOf : Answer → List ℕ
-rowOf accepted = rowFrom 0 noneGiven
+rowOf accepted = rowFrom 0 noGiven
 rowOf (gave g) = rowFrom 0 g
-rowOf (refused n) = rowFrom n noneGiven
+rowOf (refused n) = rowFrom n noGiven
 
--- the rows of a list of answers, one behind the other
-unfoldable pub rowsOf : List Answer → List ℕ
-rowsOf [] = []
-rowsOf (a ∷ answers) = rowOf a ++ rowsOf answers
+-- what is written for each of a list of answers, one behind the other
+unfoldable pub eachOf : (Answer → List ℕ) → List Answer → List ℕ
+eachOf written [] = []
+eachOf written (a ∷ answers) = written a ++ eachOf written answers
+
+-- their rows
+abbrev pub rowsOf : List Answer → List ℕ
+rowsOf = eachOf rowOf

@@ -1,5 +1,5 @@
--- A trace: the limits as on tape, then 28 bytes a call, seven 32-bit words, most significant byte first.
-use Prim.Native.Nat.{ℕ, zero, suc, _+_, _-_, _*_, _/_, _%_}
+-- A trace: the limits as on tape, then the calls, each seven 32-bit words, most significant byte first.
+use Prim.Native.Nat.{ℕ, zero, suc, _-_, _*_, _/_, _%_}
 use mathlib.Core.Bool.{not, cond, _||_}
 use mathlib.Core.List.{List, _∷_, []}
 use lib.Dec.{ltb, eqb}
@@ -8,17 +8,21 @@ use Rattle.fields.specs.Fields.{fieldOf}
 use Rattle.fields.specs.Signed.{signedOf}
 use Rattle.display.specs.Display.{Outcome, given, refused, byNumber, _then_}
 use Rattle.tape.specs.Answers.{limitsFault}
+use Rattle.machine.specs.Labels.{plainBlock}
 use Rattle.machine.specs.declared.Block.{Block}
 use Rattle.machine.specs.declared.Limits.{Limits}
 use Rattle.line.specs.Blocks as line
 use Rattle.tape.specs.Tape.{limitsBytes, limitsAt}
 
--- bytes of a call, and bits of a word
-abbrev pub callBytes : ℕ
-callBytes = 28
-
+-- bits of a word; words and bytes of a call
 abbrev pub wordBits : ℕ
 wordBits = 32
+
+abbrev pub callWords : ℕ
+callWords = 7
+
+abbrev pub callBytes : ℕ
+callBytes = wordBits * callWords / 8
 
 -- word i of a call's bytes
 abbrev pub wordOf : List ℕ → ℕ → ℕ
@@ -27,14 +31,13 @@ wordOf bytes i = fieldOf bytes (wordBits * i) wordBits
 -- the block of a call: moves X, Y, Z by two's complement, feed, radius, mark
 unfoldable pub blockOf : List ℕ → Block
 blockOf bytes =
-    record {
-      x = signedOf wordBits (wordOf bytes 1);
-      y = signedOf wordBits (wordOf bytes 2);
-      z = signedOf wordBits (wordOf bytes 3);
-      feed = wordOf bytes 4;
-      radius = wordOf bytes 5;
-      mark = wordOf bytes 6;
-    }
+    plainBlock
+    (signedOf wordBits (wordOf bytes 1))
+    (signedOf wordBits (wordOf bytes 2))
+    (signedOf wordBits (wordOf bytes 3))
+    (wordOf bytes 4)
+    (wordOf bytes 5)
+    (wordOf bytes 6)
 
 -- a call by its kind: 0 is a take, any other number an add; a take's block plays no part
 abbrev pub callBy : (kind : ℕ) → Block → line.Call
@@ -55,13 +58,6 @@ callsFrom bytes k (suc n) = callIn bytes k ∷ callsFrom bytes (suc k) n
 
 abbrev pub wholeCalls : List ℕ → List line.Call
 wholeCalls bytes = callsFrom bytes 0 (length bytes / callBytes)
-
--- the byte at which call k of a trace begins, and that call
-abbrev pub callStart : ℕ → ℕ
-callStart k = limitsBytes + callBytes * k
-
-abbrev pub callAt : List ℕ → ℕ → line.Call
-callAt trace k = callIn (drop limitsBytes trace) k
 
 -- how many calls a trace has behind its limits, and which
 abbrev pub callsIn : List ℕ → ℕ

@@ -1,128 +1,95 @@
-// One call of a trace: read from its bytes, run, and its answer written as a row.
+// One call of a trace read from its bytes, and an answer written as a row.
 ghost use mathlib.Core.Path.{_≡_};
+ghost use Prim.Native.Nat.{_+_, _*_, _≤_, _<_};
 ghost use lib.ListN.{length};
-ghost use Rattle.line.specs.Blocks as blocks;
-ghost use Rattle.replay.specs.Trace.{blockOf, callBytes, callOf, wordOf};
-ghost use Rattle.replay.specs.Rows.{noneGiven, rowFrom, rowSize};
-ghost use Rattle.replay.specs.Runs.{Stepped};
+ghost use Rattle.line.specs.Answers.{answerMeans};
+ghost use Rattle.line.specs.Blocks.{callMeans};
+ghost use Rattle.replay.specs.Trace.{blockOf, callBytes, callIn, callOf, callWords, wordOf};
+ghost use Rattle.replay.specs.Rows.{rowFrom, rowOf, rowSize};
+use crate::CALL_BYTES;
 use display::refusal_number;
-use line::AddAnswer;
+use fields::to_bits;
+use fields::to_signed;
+use line::Answer;
+use line::Call;
 use line::Given;
-use line::TakeAnswer;
+use line::lists::no_given;
+use line::lists::store_given_numbers;
 use machine::Block;
-use machine::Ramp;
-use planner::NUMBERS;
+use machine::blocks::plain_block;
 
 // Bits of a word.
 const WORD: usize = 32;
 
-// The kind that a call's bytes say: 0 is a take, any other number an add.
-pub fn kind_of(bytes: &[u8]) -> u64
-    requires { ⌜ length (now bytes) ≡ callBytes ⌝ }
-    ensures { λ r. ⌜ r ≡ wordOf (now (bytes .entry)) 0 ⌝ }
+// Word i of a call's bytes.
+fn word_of(bytes: &[u8], i: usize) -> u64
+    requires { ⌜ (length (now bytes) ≡ callBytes) × (i < callWords) ⌝ }
+    ensures { λ r. ⌜ r ≡ wordOf (now (bytes .entry)) i ⌝ }
 {
-    fields::read_field(bytes, 0, WORD)
+    fields::read_field(bytes, WORD * i, WORD)
 }
 
 // The block that a call's bytes say.
-pub fn decode_block(bytes: &[u8]) -> Block
+fn block_of(bytes: &[u8]) -> Block
     requires { ⌜ length (now bytes) ≡ callBytes ⌝ }
     ensures { λ r. ⌜ r ≡ blockOf (now (bytes .entry)) ⌝ }
 {
-    let x = fields::read_field(bytes, 32, WORD);
-    let y = fields::read_field(bytes, 64, WORD);
-    let z = fields::read_field(bytes, 96, WORD);
-    Block {
-        x: fields::to_signed(x, WORD),
-        y: fields::to_signed(y, WORD),
-        z: fields::to_signed(z, WORD),
-        feed: fields::read_field(bytes, 128, WORD),
-        radius: fields::read_field(bytes, 160, WORD),
-        mark: fields::read_field(bytes, 192, WORD),
-    }
+    let x = to_signed(word_of(bytes, 1), WORD);
+    let y = to_signed(word_of(bytes, 2), WORD);
+    let z = to_signed(word_of(bytes, 3), WORD);
+    plain_block(
+        x,
+        y,
+        z,
+        word_of(bytes, 4),
+        word_of(bytes, 5),
+        word_of(bytes, 6),
+    )
 }
 
-// What a row has where no block is given out.
-fn none_given() -> Given
-    ensures { λ r. ⌜ r ≡ noneGiven ⌝ }
+// The call that its bytes say: kind 0 is a take, any other number an add.
+fn call_of(bytes: &[u8]) -> Call
+    requires { ⌜ length (now bytes) ≡ callBytes ⌝ }
+    ensures { λ r. ⌜ callMeans r ≡ callOf (now (bytes .entry)) ⌝ }
 {
-    Given {
-        block: Block {
-            x: 0,
-            y: 0,
-            z: 0,
-            feed: 0,
-            radius: 0,
-            mark: 0,
-        },
-        length: 0,
-        accel: 0,
-        entry: 0,
-        exit: 0,
-        ramp: Ramp {
-            peak: 0,
-            up: 0,
-            cruise: 0,
-            down: 0,
-        },
+    let kind = word_of(bytes, 0);
+    if kind == 0 {
+        return Call::Take;
     }
+    Call::Add(block_of(bytes))
+}
+
+// Call k of bytes with no limits before them, k counted from 0.
+pub fn read_call(bytes: &[u8], k: usize) -> Call
+    requires { ⌜ callBytes * (k + 1) ≤ length (now bytes) ⌝ }
+    ensures { λ r. ⌜ callMeans r ≡ callIn (now (bytes .entry)) k ⌝ }
+{
+    let from = CALL_BYTES * k;
+    let to = from + CALL_BYTES;
+    call_of(&bytes[from..to])
 }
 
 // Writes a row: the number on the display and a block given out.
-fn write_row(number: u64, g: Given, row: &mut [u64])
+fn store_row(number: u64, g: Given, row: &mut [u64])
     requires { ⌜ length (now row) ≡ rowSize ⌝ }
     ensures { λ r. ⌜ now (row .exit) ≡ rowFrom number g ⌝ }
 {
     let b = g.block;
-    let ramp = g.ramp;
     row[0] = number;
-    row[1] = fields::to_bits(b.x, WORD);
-    row[2] = fields::to_bits(b.y, WORD);
-    row[3] = fields::to_bits(b.z, WORD);
-    row[4] = b.feed;
-    row[5] = b.radius;
-    row[6] = b.mark;
-    row[7] = g.length;
-    row[8] = g.accel;
-    row[9] = g.entry;
-    row[10] = g.exit;
-    row[11] = ramp.peak;
-    row[12] = ramp.up;
-    row[13] = ramp.cruise;
-    row[14] = ramp.down;
+    row[1] = to_bits(b.x, WORD);
+    row[2] = to_bits(b.y, WORD);
+    row[3] = to_bits(b.z, WORD);
+    store_given_numbers(g, &mut row[4..]);
 }
 
-// An add and its row.
-fn add_call(b: Block, memory: &mut [u64; NUMBERS], row: &mut [u64])
+// Writes the row of an answer.
+pub(crate) fn write_row(a: Answer, row: &mut [u64])
     requires { ⌜ length (now row) ≡ rowSize ⌝ }
-    ensures { λ r. ⌜ Stepped (blocks.add b) (now (memory .entry)) (now (memory .exit)) (now (row .exit)) ⌝ }
+    ensures { λ r. ⌜ now (row .exit) ≡ rowOf (answerMeans a) ⌝ }
 {
-    match planner::add(memory, b) {
-        AddAnswer::Added => write_row(0, none_given(), row),
-        AddAnswer::Refused(why) => write_row(refusal_number(why), none_given(), row),
-    }
-}
-
-// A take and its row.
-fn take_call(memory: &mut [u64; NUMBERS], row: &mut [u64])
-    requires { ⌜ length (now row) ≡ rowSize ⌝ }
-    ensures { λ r. ⌜ Stepped blocks.take (now (memory .entry)) (now (memory .exit)) (now (row .exit)) ⌝ }
-{
-    match planner::take(memory) {
-        TakeAnswer::Given(g) => write_row(0, g, row),
-        TakeAnswer::Refused(why) => write_row(refusal_number(why), none_given(), row),
-    }
-}
-
-// Runs the call that 28 bytes say.
-pub(crate) fn step(bytes: &[u8], memory: &mut [u64; NUMBERS], row: &mut [u64])
-    requires { ⌜ (length (now bytes) ≡ callBytes) × (length (now row) ≡ rowSize) ⌝ }
-    ensures { λ r. ⌜ Stepped (callOf (now (bytes .entry))) (now (memory .entry)) (now (memory .exit)) (now (row .exit)) ⌝ }
-{
-    let kind = kind_of(bytes);
-    if kind == 0 {
-        take_call(memory, row);
-    } else {
-        add_call(decode_block(bytes), memory, row);
+    match a {
+        Answer::Accepted => store_row(0, no_given(), row),
+        Answer::Gave(g) => store_row(0, g, row),
+        Answer::Refused(why) => store_row(refusal_number(why), no_given(), row),
     }
 }

@@ -4,18 +4,22 @@
 // is a take, any other number an add), moves X, Y, Z by two's complement, feed, radius, mark. A
 // take's other words play no part.
 ghost use mathlib.Core.Path.{_≡_};
-ghost use Prim.Native.Nat.{_*_, _≤_};
+ghost use Prim.Native.Nat.{_*_, _/_, _≤_};
 ghost use lib.ListN.{length};
 ghost use Rattle.machine.specs.Checks.{limitsRefusal};
+ghost use Rattle.machine.specs.Numbers.{builtIn};
 ghost use Rattle.tape.specs.Tape.{limitsBytes};
 ghost use Rattle.tape.specs.Answers.{limitsMeans};
-ghost use Rattle.replay.specs.Trace.{callsIn, readTrace, traceCalls};
-ghost use Rattle.replay.specs.Rows.{rowSize};
+ghost use Rattle.replay.specs.Trace.{callBytes, callsIn, readTrace, traceCalls, wholeCalls};
+ghost use Rattle.replay.specs.Rows.{rowOf, rowSize};
 ghost use Rattle.replay.specs.Replays.{Demanded, Replays, planSize};
-ghost use Rattle.replay.specs.Runs.{Ran};
+ghost use Rattle.replay.specs.Runs.{Ran, ToldPlan};
+use calls::read_call;
+use calls::write_row;
 use display::Refusal;
 use machine::Limits;
 use planner::NUMBERS;
+use planner::Planner;
 use tape::LIMITS_BYTES;
 use tape::LimitsRead;
 use tape::limits::read_limits;
@@ -28,8 +32,8 @@ pub const CALL_BYTES: usize = 28;
 // by two's complement of 32 bits, feed, radius, mark, length, acceleration, entry, exit, peak, and
 // the lengths of speeding up, of constant speed and of braking; else zeros.
 pub const ROW: usize = 15;
-// Numbers of the list for the plan.
-pub const PLAN: usize = 65;
+// Numbers of the list for the plan: as many as the longest line has junctions.
+pub const PLAN: usize = Planner::PLACES as usize + 1;
 
 // The answer of running a trace.
 pub enum Replayed {
@@ -51,41 +55,47 @@ fn read_head(trace: &[u8]) -> LimitsRead
     read_limits(trace)
 }
 
-// Runs the calls in turn, each into its row.
-fn run(trace: &[u8], memory: &mut [u64; NUMBERS], answers: &mut [u64])
-    requires { ⌜ (limitsBytes ≤ length (now trace)) × (length (now answers) ≡ rowSize * callsIn (now trace)) ⌝ }
-    ensures { λ r. ⌜ Ran (traceCalls (now (trace .entry))) (now (memory .entry)) (now (memory .exit)) (now (answers .exit)) ⌝ }
+// Runs the calls of bytes with no limits before them, each into its row.
+fn run(bytes: &[u8], memory: &mut [u64; NUMBERS], answers: &mut [u64])
+    requires { ⌜ length (now answers) ≡ rowSize * (length (now bytes) / callBytes) ⌝ }
+    ensures { λ r. ⌜ Ran rowOf (wholeCalls (now (bytes .entry))) (now (memory .entry)) (now (memory .exit)) (now (answers .exit)) ⌝ }
 {
-    let n = (trace.len() - LIMITS_BYTES) / CALL_BYTES;
+    let n = bytes.len() / CALL_BYTES;
     let mut k: usize = 0;
     while k < n {
-        let from = LIMITS_BYTES + CALL_BYTES * k;
-        let to = from + CALL_BYTES;
         let first = ROW * k;
         let last = first + ROW;
-        calls::step(&trace[from..to], memory, &mut answers[first..last]);
+        let answer = planner::call(memory, read_call(bytes, k));
+        write_row(answer, &mut answers[first..last]);
         k += 1;
     }
 }
 
-// Runs the calls from a fresh planner, and shows the plan at the end in the first numbers of its
-// list. Returns the number told.
+// Tells how many blocks are held, and shows the plan in the first numbers of its list.
+pub fn tell(memory: &[u64; NUMBERS], plan: &mut [u64]) -> u64
+    requires { ⌜ length (now plan) ≡ planSize ⌝ }
+    ensures { λ r. ⌜ ToldPlan (now (memory .entry)) r (now (plan .entry)) (now (plan .exit)) ⌝ }
+{
+    let told = planner::told(memory);
+    let junctions = told as usize + 1;
+    planner::shown(memory, &mut plan[..junctions]);
+    told
+}
+
+// Runs the calls from a fresh planner, and tells how it stands at the end.
 fn run_all(trace: &[u8], l: Limits, answers: &mut [u64], plan: &mut [u64]) -> u64
     requires { ⌜ (limitsRefusal l ≡ 0) × (limitsBytes ≤ length (now trace)) × (length (now answers) ≡ rowSize * callsIn (now trace)) × (length (now plan) ≡ planSize) ⌝ }
-    ensures { λ r. ⌜ Demanded l (traceCalls (now (trace .entry))) r (now (answers .exit)) (now (plan .entry)) (now (plan .exit)) ⌝ }
+    ensures { λ r. ⌜ Demanded (builtIn l) (traceCalls (now (trace .entry))) r (now (answers .exit)) (now (plan .entry)) (now (plan .exit)) ⌝ }
 {
     let mut memory = [0u64; NUMBERS];
     planner::fresh(&mut memory, l);
-    run(trace, &mut memory, answers);
-    let told = planner::told(&memory);
-    let junctions = told as usize + 1;
-    planner::shown(&memory, &mut plan[..junctions]);
-    told
+    run(&trace[LIMITS_BYTES..], &mut memory, answers);
+    tell(&memory, plan)
 }
 
 // Runs a trace: `answers` gets a row for each call, the first numbers of `plan` the plan at the end,
 // and the number of blocks held is returned. Checks 9, 1, then 11 where a list has not its length:
-// 15 numbers a call, 65 for the plan. A refusal changes neither list.
+// `ROW` numbers a call, `PLAN` for the plan. A refusal changes neither list.
 pub fn replay(trace: &[u8], answers: &mut [u64], plan: &mut [u64]) -> Replayed
     ensures { λ r. ⌜ Replays (now (trace .entry)) (now (answers .entry)) (now (plan .entry)) r (now (answers .exit)) (now (plan .exit)) ⌝ }
 {

@@ -16,6 +16,7 @@ use Rattle.line.specs.Blocks.{lineAnswer, lineAfter, lineAnswers, lineAfterAll}
 use Rattle.line.specs.declared.Given.{Given}
 use Rattle.tape.specs.Tape.{limitsAt, zeroBits}
 use Rattle.tape.specs.Answers.{limitsReadRefusal, limitsFault}
+use Rattle.replay.specs.Rows.{eachOf}
 use Rattle.replay.specs.Trace.{callOf, callsFrom}
 use Rattle.text.specs.Text.{digitsOf, decimal, spaced, line, row, refusedWords}
 use Rattle.listing.specs.Given.{givenText}
@@ -35,7 +36,7 @@ given =
 
 -- `added`, `refused 7`, `5 12 100 0 400 9 10 1 2`
 lines : answersText (accepted ∷ refused 7 ∷ gave given ∷ []) ≡ 97 ∷ 100 ∷ 100 ∷ 101 ∷ 100 ∷ 10 ∷ 114 ∷ 101 ∷ 102 ∷ 117 ∷ 115 ∷ 101 ∷ 100 ∷ 32 ∷ 55 ∷ 10 ∷ 53 ∷ 32 ∷ 49 ∷ 50 ∷ 32 ∷ 49 ∷ 48 ∷ 48 ∷ 32 ∷ 48 ∷ 32 ∷ 52 ∷ 48 ∷ 48 ∷ 32 ∷ 57 ∷ 32 ∷ 49 ∷ 48 ∷ 32 ∷ 49 ∷ 32 ∷ 50 ∷ 10 ∷ []
-unfolding given answersText answerText givenText row line spaced decimal digitsOf
+unfolding given eachOf answerText givenText row line spaced decimal digitsOf
 lines = refl
 
 -- `held 1`, `plan 40 0`
@@ -59,5 +60,5 @@ zero-limits = refl
 -- a take, and one byte more: `refused 8`, `refused 9 at 2`, `held 0`, `plan 0`
 cut : replayText (machine ++ replicate 29 0)
     ≡ 114 ∷ 101 ∷ 102 ∷ 117 ∷ 115 ∷ 101 ∷ 100 ∷ 32 ∷ 56 ∷ 10 ∷ 114 ∷ 101 ∷ 102 ∷ 117 ∷ 115 ∷ 101 ∷ 100 ∷ 32 ∷ 57 ∷ 32 ∷ 97 ∷ 116 ∷ 32 ∷ 50 ∷ 10 ∷ 104 ∷ 101 ∷ 108 ∷ 100 ∷ 32 ∷ 48 ∷ 10 ∷ 112 ∷ 108 ∷ 97 ∷ 110 ∷ 32 ∷ 48 ∷ 10 ∷ []
-unfolding machine replayText limitsReadRefusal limitsFault zeroBits limitsAt limitsFrom limitsRefusal limitsWithin split numberOf joined callsFrom callOf fieldOf answersText answerText lineAnswers lineAnswer lineAfterAll lineAfter spansOf planOf startLimit forward line spaced decimal digitsOf refusedWords
+unfolding machine replayText limitsReadRefusal limitsFault zeroBits limitsAt limitsFrom limitsRefusal limitsWithin split numberOf joined callsFrom callOf fieldOf eachOf answerText lineAnswers lineAnswer lineAfterAll lineAfter spansOf planOf startLimit forward line spaced decimal digitsOf refusedWords
 cut = refl

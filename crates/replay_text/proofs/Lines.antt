@@ -1,10 +1,10 @@
 -- Lines as they are stored with room. From the laws of listings.
 use mathlib.Core.Path.{_≡_, ap, _∙_}
 use mathlib.Core.List.{List, _∷_, []}
-use Prim.Native.Nat.{ℕ, zero, suc, _+_, _≤_, _<_, _^_}
+use Prim.Native.Nat.{ℕ, zero, suc, _≤_, _<_, _^_}
 use native.Mathlib.Omega.{arith}
 use lib.ListN.{length, getD}
-use Rattle.line.specs.Blocks.{mostHeld}
+use Rattle.replay.specs.Replays.{planSize}
 use Rattle.text.specs.Store.{placeBehind, Answered}
 use Rattle.text.specs.declared.Put.{Put}
 use Rattle.text.specs.Text as text
@@ -23,7 +23,7 @@ pub refused-few : (n : ℕ) → n < 2 ^ 64 → length (text.refused n) ≤ lineB
 refused-few n h = omega (arith, line-most text.refusedWord (n ∷ []) (below n h))
 
 -- The closing lines have room.
-pub both-lines : (told : ℕ) → told < 2 ^ 64 → (plan : List ℕ) → ((i : ℕ) → getD plan i 0 < 2 ^ 64) → length plan ≤ mostHeld + 1
+pub both-lines : (told : ℕ) → told < 2 ^ 64 → (plan : List ℕ) → ((i : ℕ) → getD plan i 0 < 2 ^ 64) → length plan ≤ planSize
     → {s between after : List ℕ} {end last : ℕ} {first second : Put} → length s ≡ textBytes
     → Answered s 0 (text.held told) first between → end ≡ placeBehind 0 first
     → Answered between end (text.plan plan) second after → last ≡ placeBehind end second → Ended told plan s last after

@@ -10,27 +10,27 @@ use lib.Dec.{eqb}
 use lib.ListN.{length, take, drop, length-append, length-drop, length-take}
 use lib.Seq.{take-append-le, drop-append-le, drop-append-add, take-take}
 use Rattle.machine.specs.Checks.{limitsRefusal}
+use Rattle.machine.specs.Numbers.{builtIn}
 use Rattle.machine.specs.declared.Limits.{Limits}
-use Rattle.line.specs.Blocks.{freshLine, lineAfterAll}
-use Rattle.line.specs.Ring.{ringAnswers, ringAfterAll}
-use Rattle.line.specs.Holds.{Holds}
-use Rattle.line.proofs.Calls.{holds-calls}
-use Rattle.planner.specs.View.{viewOf}
+use Rattle.line.specs.Blocks.{freshLine}
 use Rattle.planner.specs.Calls.{Freshened}
+use Rattle.planner.proofs.Demand.{called-line}
 use Rattle.tape.specs.Tape.{limitsBytes, limitsAt, zeroBits}
-use Rattle.display.specs.Display.{given, refused, _then_}
+use Rattle.display.specs.Display.{given, refused}
 use Rattle.tape.specs.Answers.{readLimits, limitsReadRefusal, limitsFault, raggedBelow}
 use Rattle.display.proofs.Answers.{at-zero, above-zero, then-zero, given-is, refused-is}
 use Rattle.tape.proofs.Answers.{enough, too-few}
 use Rattle.tape.proofs.Checks.{limits-faultless}
+use Rattle.replay.specs.Runs.{Ran}
 use Rattle.replay.specs.Trace.{callBytes, callOf, callIn, callsFrom, wholeCalls}
+use Rattle.replay.proofs.Runs.{ran-both, ran-none}
 use Rattle.text.specs.Text.{refusedAt}
 use Rattle.text.proofs.Store.{take-front}
-use Rattle.replay_text.specs.Texts.{answersText, cutPlace, cutText, callsText, replayText}
+use Rattle.replay_text.specs.Texts.{answerText, answersText, cutPlace, cutText, callsText, replayText}
 use Rattle.replay_text.specs.Chunks.{mostCalls, chunkSize, chunkCalls}
 use Rattle.replay_text.specs.Runs.{Closed}
 use Rattle.replay_text.specs.Turns.{chunkBytes, chunksJoined, Chunked, placeIn, Turns, none, turn}
-use Rattle.replay_text.proofs.Runs.{text-held, text-both, after-both}
+use Rattle.replay_text.proofs.Runs.{closed-line}
 
 -- A call of bytes that others follow, and one of those that follow.
 call-before : (bytes more : List ℕ) (k : ℕ) → callBytes * suc k ≤ length bytes → callIn (bytes ++ more) k ≡ callIn bytes k
@@ -76,20 +76,13 @@ whole-last bytes h =
     let size : length bytes / callBytes ≡ chunkSize bytes = omega arith in
     ap wholeCalls (append-nil bytes) ∙ ap (callsFrom bytes 0) size
 
--- Chunk by chunk, what is written is the text of all calls, and the memory is as after them, whatever it holds at first.
-abbrev pub WrittenWhole : (bytes : List ℕ) (memory memory′ written : List ℕ) → Type 0
-WrittenWhole bytes memory memory′ written =
-    (written ≡ answersText (ringAnswers (viewOf memory) (wholeCalls bytes))) × (viewOf memory′ ≡ ringAfterAll (viewOf memory) (wholeCalls bytes))
-
-pub turns-whole : {chunks : List (List ℕ)} {m m′ written : List ℕ} → Chunked chunks → Turns chunks m m′ written → WrittenWhole (chunksJoined chunks) m m′ written
-unfolding chunksJoined answersText ringAnswers ringAfterAll callsFrom
-turns-whole c none = (refl, refl)
-turns-whole c (turn {bytes} {chunks = []} r none) = rw (whole-last bytes c) (append-nil _ ∙ take-front (r .stored), r .after)
-turns-whole c (turn {bytes} {m} {chunks = next ∷ chunks} r rest) =
-    let then = turns-whole (c .1) rest in
-    let more : List ℕ = chunksJoined (next ∷ chunks) in
-    rw (whole-both bytes more (c .0), text-both (viewOf m) (chunkCalls bytes) (wholeCalls more), after-both (viewOf m) (chunkCalls bytes) (wholeCalls more), ← r .after)
-    ((λ i. take-front (r .stored) i ++ then .0 i), then .1)
+-- Chunk by chunk, what is written is the text of the answers to all calls.
+turns-whole : {chunks : List (List ℕ)} {m m′ written : List ℕ} → Chunked chunks → Turns chunks m m′ written → Ran answerText (wholeCalls (chunksJoined chunks)) m m′ written
+unfolding chunksJoined
+turns-whole {m} c none = ran-none answerText [] m
+turns-whole c (turn {bytes} {chunks = []} r none) = rw (whole-last bytes c, take-front (r .stored), append-nil (r .lines)) (r .ran)
+turns-whole c (turn {bytes} {chunks = next ∷ chunks} r rest) =
+    rw (whole-both bytes (chunksJoined (next ∷ chunks)) (c .0), take-front (r .stored)) (ran-both (r .ran) (turns-whole (c .1) rest))
 
 -- The place of a cut call behind a whole chunk,
 place-behind : (calls n : ℕ) → cutPlace (calls + mostCalls) n ≡ cutPlace calls (chunkBytes + n)
@@ -143,10 +136,9 @@ pub trace-written : (s : List ℕ) {l : Limits} {chunks : List (List ℕ)} {m₀
 unfolding replayText
 trace-written s {l} {chunks} {m} {m′} {written} {text′} {end} e f j c r closing =
     let head = head-read s e in
-    let fresh : Holds (viewOf m) (freshLine l) = f .line (f .answer ∙ head .1 .1) in
-    let ran : WrittenWhole (chunksJoined chunks) m m′ written = turns-whole c r in
-    let held : Holds (viewOf m′) (lineAfterAll (freshLine l) (wholeCalls (chunksJoined chunks))) = rw (ran .1) (holds-calls (wholeCalls (chunksJoined chunks)) fresh .1) in
+    let ran = turns-whole c r in
+    let run = called-line (ran .called) (freshLine (builtIn l)) (f .line (f .answer ∙ head .1 .1)) in
     let place : placeIn 0 chunks ≡ cutPlace 0 (length s - limitsBytes) = place-whole 0 chunks c ∙ ap (λ (b : List ℕ). cutPlace 0 (length b)) j ∙ ap (cutPlace 0) (length-drop limitsBytes s) in
-    (λ i. (ran .0 ∙ text-held (wholeCalls (chunksJoined chunks)) fresh) i ++ cutText (place i) ++ take-front (closing .line _ held .0) i)
-    ∙ (λ i. callsText (head .1 .0 i) (wholeCalls (j i)) (cutPlace 0 (length s - limitsBytes)))
+    (λ i. (ran .all-is ∙ ap answersText (run .0)) i ++ cutText (place i) ++ closed-line closing _ (run .1) i)
+    ∙ (λ i. callsText (builtIn (head .1 .0 i)) (wholeCalls (j i)) (cutPlace 0 (length s - limitsBytes)))
     ∙ sym (at-zero _ _ (head .0))

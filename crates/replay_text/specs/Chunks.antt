@@ -17,7 +17,7 @@ lineBytes = mostGiven
 abbrev pub textBytes : ℕ
 textBytes = 65536
 
--- how many calls of a chunk are run, the whole ones and no more than 300, and which
+-- how many calls of a chunk are run, the whole ones up to the most, and which
 abbrev pub chunkSize : List ℕ → ℕ
 chunkSize bytes = min (length bytes / callBytes) mostCalls
 

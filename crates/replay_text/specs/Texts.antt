@@ -1,10 +1,11 @@
 -- The text of a trace that is run: a line for each answer, one for a cut call, and the two closing lines.
 use Prim.Native.Nat.{ℕ, _+_, _-_, _/_, _%_}
 use mathlib.Core.Bool.{cond}
-use mathlib.Core.List.{List, _∷_, _++_, []}
+use mathlib.Core.List.{List, _++_, []}
 use lib.Dec.{eqb}
 use lib.ListN.{length}
-use Rattle.machine.specs.declared.Limits.{Limits}
+use Rattle.machine.specs.Numbers.{builtIn}
+use Rattle.machine.specs.declared.Machine.{Machine}
 use Rattle.line.specs.Answers.{Answer, accepted, gave, refused}
 use Rattle.line.specs.Blocks.{Call, freshLine, lineAnswers, lineAfterAll, linePlan}
 use Rattle.text.specs.Text as text
@@ -12,6 +13,7 @@ use Rattle.listing.specs.Given.{givenText}
 use Rattle.tape.specs.Tape.{limitsBytes, limitsAt}
 use Rattle.display.specs.Display.{byNumber}
 use Rattle.tape.specs.Answers.{limitsReadRefusal}
+use Rattle.replay.specs.Rows.{eachOf}
 use Rattle.replay.specs.Trace.{callBytes, traceCalls}
 
 -- the line of an answer
@@ -21,9 +23,8 @@ answerText (gave g) = givenText g
 answerText (refused n) = text.refused n
 
 -- the lines of a list of answers, one behind the other
-unfoldable pub answersText : List Answer → List ℕ
-answersText [] = []
-answersText (a ∷ answers) = answerText a ++ answersText answers
+abbrev pub answersText : List Answer → List ℕ
+answersText = eachOf answerText
 
 -- the two closing lines: the number of blocks held, and the plan
 abbrev pub closingText : (told : ℕ) (plan : List ℕ) → List ℕ
@@ -37,14 +38,14 @@ cutPlace calls bytes = cond (eqb (bytes % callBytes) 0) 0 (calls + bytes / callB
 abbrev pub cutText : (place : ℕ) → List ℕ
 cutText place = byNumber place [] (text.refusedAt 9 place)
 
--- the text of calls from a fresh planner with limits l, behind which a call is cut at a place, or none
-abbrev pub callsText : Limits → List Call → (place : ℕ) → List ℕ
-callsText l calls place =
-    answersText (lineAnswers (freshLine l) calls)
+-- the text of calls from a fresh planner of machine m, behind which a call is cut at a place, or none
+abbrev pub callsText : Machine → List Call → (place : ℕ) → List ℕ
+callsText m calls place =
+    answersText (lineAnswers (freshLine m) calls)
     ++ cutText place
-    ++ closingText (length (lineAfterAll (freshLine l) calls .blocks)) (linePlan (lineAfterAll (freshLine l) calls))
+    ++ closingText (length (lineAfterAll (freshLine m) calls .blocks)) (linePlan (lineAfterAll (freshLine m) calls))
 
 -- the text of the trace of any bytes: of its whole calls, or the refusal's line where it has no whole limits (9) or limits that do not pass (1)
 unfoldable pub replayText : List ℕ → List ℕ
 replayText s =
-    byNumber (limitsReadRefusal s) (callsText (limitsAt s) (traceCalls s) (cutPlace 0 (length s - limitsBytes))) (text.refusedAt (limitsReadRefusal s) 0)
+    byNumber (limitsReadRefusal s) (callsText (builtIn (limitsAt s)) (traceCalls s) (cutPlace 0 (length s - limitsBytes))) (text.refusedAt (limitsReadRefusal s) 0)

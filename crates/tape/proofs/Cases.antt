@@ -8,6 +8,7 @@ use Rattle.machine.specs.Lists.{limitsFrom}
 use Rattle.fields.specs.Layouts.{joined, split}
 use Rattle.fields.specs.Bytes.{numberOf, bytesOf, withBytes}
 use Rattle.fields.specs.Signed.{signedOf, bitsOf}
+use Rattle.machine.specs.Labels.{labelOf, labelledBlock}
 use Rattle.machine.specs.Checks.{limitsRefusal, limitsWithin, blockRefusal, greatestMove}
 use Rattle.tape.specs.Tape.{limitsAt, zeroBits, blockNumber, blockAt, blocksFrom, tapeBlocks}
 use Rattle.display.specs.Display.{given, refused, _at_}
@@ -39,20 +40,20 @@ unfolding machine readLimits limitsReadRefusal limitsFault zeroBits limitsAt lim
 limits-read = refl
 
 record-read : readRecord (eight ++ seven) ≡ given record { x = pos 0; y = negsuc 999; z = pos 0; feed = 20000; radius = 1000; mark = 8 }
-unfolding seven eight readRecord recordReadRefusal blockAt blockRefusal greatestMove signedOf split numberOf joined
+unfolding seven eight readRecord recordReadRefusal blockAt labelledBlock blockRefusal greatestMove signedOf split numberOf joined
 record-read = refl
 
 still : readRecord (replicate 16 0) ≡ refused 2
-unfolding readRecord recordReadRefusal blockAt blockRefusal greatestMove signedOf split numberOf joined
+unfolding readRecord recordReadRefusal blockAt labelledBlock blockRefusal greatestMove signedOf split numberOf joined
 still = refl
 
 -- two blocks; the second at fault, by 3 before 4; a byte too many
 taken : checkTape (machine ++ seven ++ eight) ≡ given 2
-unfolding machine seven eight checkTape tapeFault headRefusal limitsFault zeroBits limitsAt limitsFrom limitsRefusal limitsWithin faultFrom tapeBlocks blocksFrom blockAt blockRefusal greatestMove signedOf split numberOf joined
+unfolding machine seven eight checkTape tapeFault headRefusal limitsFault zeroBits limitsAt limitsFrom limitsRefusal limitsWithin faultFrom tapeBlocks blocksFrom blockAt labelledBlock blockRefusal greatestMove signedOf split numberOf joined
 taken = refl
 
 second : checkTape (machine ++ seven ++ far) ≡ refused (3 at 2)
-unfolding machine seven far checkTape tapeFault headRefusal limitsFault zeroBits limitsAt limitsFrom limitsRefusal limitsWithin faultFrom tapeBlocks blocksFrom blockAt blockRefusal greatestMove signedOf split numberOf joined
+unfolding machine seven far checkTape tapeFault headRefusal limitsFault zeroBits limitsAt limitsFrom limitsRefusal limitsWithin faultFrom tapeBlocks blocksFrom blockAt labelledBlock blockRefusal greatestMove signedOf split numberOf joined
 second = refl
 
 ragged : checkTape (machine ++ seven ++ 0 ∷ []) ≡ refused (9 at 0)
@@ -61,7 +62,7 @@ ragged = refl
 
 -- writing: only 16 bytes change; 9 where too few are lent, but 2 before it
 stored : recordWritten (record { x = pos 1000; y = pos 0; z = pos 0; feed = 20000; radius = 0; mark = 7 }) (replicate 18 255) ≡ seven ++ 255 ∷ 255 ∷ []
-unfolding seven recordWritten recordWriteRefusal blockRefusal greatestMove blockNumber bitsOf withBytes bytesOf split joined
+unfolding seven recordWritten recordWriteRefusal blockRefusal greatestMove blockNumber labelOf bitsOf withBytes bytesOf split joined
 stored = refl
 
 short : recordWriteRefusal (record { x = pos 1000; y = pos 0; z = pos 0; feed = 20000; radius = 0; mark = 7 }) (replicate 15 255) ≡ 9
@@ -74,7 +75,7 @@ still-first = refl
 
 -- writing record 1 of a tape of two: the limits and record 0 stay; record 2 begins where this tape ends, and no place is too far
 replaced : tapeWritten (record { x = pos 0; y = negsuc 999; z = pos 0; feed = 20000; radius = 1000; mark = 8 }) 1 (machine ++ seven ++ far) ≡ machine ++ seven ++ eight
-unfolding machine seven eight far tapeWritten recordWritten recordWriteRefusal blockRefusal greatestMove blockNumber bitsOf withBytes bytesOf split joined
+unfolding machine seven eight far tapeWritten recordWritten recordWriteRefusal blockRefusal greatestMove blockNumber labelOf bitsOf withBytes bytesOf split joined
 replaced = refl
 
 behind : tapeWriteRefusal (record { x = pos 1000; y = pos 0; z = pos 0; feed = 20000; radius = 0; mark = 7 }) 2 (machine ++ seven ++ far) ≡ 9

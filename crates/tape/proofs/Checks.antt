@@ -10,8 +10,8 @@ use lib.ListN.{length}
 use Rattle.machine.specs.Checks.{limitsRefusal, blockRefusal}
 use Rattle.machine.specs.declared.Limits.{Limits}
 use Rattle.machine.specs.declared.Block.{Block}
-use Rattle.tape.specs.Tape.{limitsBytes, limitsAt, zeroBits, recordBytes, blockAt, recordStart, recordsIn}
-use Rattle.tape.specs.Answers.{raggedBelow, limitsFault, limitsReadRefusal, recordReadRefusal, limitsWriteRefusal, recordWriteRefusal, mostBytes, manyIn, raggedIn, headRefusal, readHead}
+use Rattle.tape.specs.Tape.{limitsBytes, limitsAt, zeroBits, recordBytes, blockAt, recordsIn}
+use Rattle.tape.specs.Answers.{raggedBelow, limitsFault, limitsReadRefusal, recordReadRefusal, limitsWriteRefusal, recordWriteRefusal, mostBlocks, mostBytes, manyIn, raggedIn, headRefusal, readHead}
 use Rattle.display.specs.Display.{given, refused}
 use Rattle.display.proofs.Answers.{then-first, then-second, then-zero, not-picked, given-is, refused-is}
 use Rattle.tape.proofs.Answers.{enough}
@@ -115,11 +115,8 @@ module _ (s : List ℕ) where
       neither true b e = let z : _≡_ {A = ℕ} 0 1 = cc in absurd (omega arith)
       neither false b e = (refl, e)
 
-  -- Such a tape is its limits and its records to the end, at most 2,048.
-  pub head-length : Head → length s ≡ recordStart (recordsIn s)
-  head-length h = omega (arith, h .least, h .whole)
-
-  pub head-records : Head → recordsIn s ≤ 2048
+  -- Such a tape has not more records than the most.
+  pub head-records : Head → recordsIn s ≤ mostBlocks
   head-records h = omega (arith, h .most)
 
   -- What reading the head gives, or refuses.

@@ -1,18 +1,21 @@
 -- A whole tape: its records by their place, and its first fault. From the definitions.
 use mathlib.Core.Path.{_≡_, refl, sym, ap, subst, _∙_}
-use Prim.Native.Nat.{ℕ, zero, suc, _+_, _-_, _≤_, _<_}
-use native.Mathlib.Nat.{add-zero, zero-add, le-of-eq}
+use Prim.Native.Nat.{ℕ, zero, suc, _+_, _≤_, _<_}
+use native.Mathlib.Nat.{add-zero, zero-add}
 use native.Mathlib.Numerals.{add-one}
 use native.Mathlib.Omega.{arith}
 use mathlib.Core.List.{List, _∷_}
-use lib.ListN.{length, take, drop, getD, length-take, length-drop, drop-of-length-le}
-use lib.Seq.{take-all, getD-drop}
+use lib.Dec.{lit<}
+use lib.ListN.{length, drop, getD, length-drop, drop-of-length-le}
+use lib.Seq.{getD-drop}
 use Rattle.machine.specs.Checks.{blockRefusal}
 use Rattle.machine.specs.declared.Block.{Block}
-use Rattle.tape.specs.Tape.{recordBytes, blockAt, recordStart, recordAt, recordsIn, blocksFrom, tapeBlocks}
+use Rattle.tape.specs.Tape.{blockAt, recordBytes, recordStart, recordAt, recordsIn, blocksFrom, tapeBlocks}
 use Rattle.display.specs.Display.{given, refused, Fault, _at_, _else_}
-use Rattle.tape.specs.Answers.{recordReadRefusal, readRecord, faultFrom, headRefusal, tapeFault, tapeRefusal}
-use Rattle.display.proofs.Answers.{at-zero, above-zero, refused-is}
+use Rattle.tape.specs.Answers.{recordReadRefusal, readRecord, readAt, faultFrom, headRefusal, tapeFault, tapeRefusal}
+use Rattle.display.specs.declared.Refusal.the-variants as why
+use Rattle.display.proofs.Answers.{at-zero, above-zero, refused-is, refuses-by, then-first}
+use Rattle.tape.proofs.Answers.{too-few}
 use Rattle.tape.proofs.Checks.{record-long}
 use Rattle.tape.proofs.Trips.{record-taken}
 
@@ -62,23 +65,24 @@ module _ (s : List ℕ) where
       ap (λ (i : ℕ). getD (tapeBlocks s) i d) (sym (add-zero k)) ∙ sym (getD-drop k (tapeBlocks s) 0 d)
       ∙ ap (λ (t : List Block). getD t 0 d) (drop-blocks h)
 
-  -- The part of a tape that begins at record k, as code lends it, says that record.
-  abbrev pub partAt : ℕ → List ℕ
-  partAt k = take (length s - recordStart k) (drop (recordStart k) s)
+  -- Reading record k gives that record, which passes, or its refusal.
+  pub read-given : (k : ℕ) {b : Block} → readAt s k ≡ given b → (recordAt s k ≡ b) × (blockRefusal b ≡ 0)
+  read-given k e = record-taken (drop (recordStart k) s) e .1
 
-  pub part-record : (k : ℕ) → blockAt (partAt k) ≡ recordAt s k
-  part-record k = ap blockAt (take-all (length s - recordStart k) (drop (recordStart k) s) (le-of-eq (length-drop (recordStart k) s)))
-
-  -- Reading it gives that record, which passes, or its refusal.
-  pub part-given : (k : ℕ) {b : Block} → readRecord (partAt k) ≡ given b → (recordAt s k ≡ b) × (blockRefusal b ≡ 0)
-  part-given k e = let t = record-taken (partAt k) e in (sym (part-record k) ∙ t .1 .0, t .1 .1)
-
-  pub part-refused : {k n : ℕ} → k < recordsIn s → readRecord (partAt k) ≡ refused n → (0 < n) × (blockRefusal (recordAt s k) ≡ n)
+  pub read-refused : {k n : ℕ} → k < recordsIn s → readAt s k ≡ refused n → (0 < n) × (blockRefusal (recordAt s k) ≡ n)
   unfolding readRecord
-  part-refused {k} h e =
-      let r = refused-is (blockAt (partAt k)) (recordReadRefusal (partAt k)) (recordReadRefusal (partAt k)) (sym e) in
-      let long : recordBytes ≤ length (partAt k) = simp (length-take, length-drop) (omega arith) in
-      (rw (← r .1) at (r .0), ap blockRefusal (sym (part-record k)) ∙ sym (record-long (partAt k) long) ∙ sym (r .1))
+  read-refused {k} h e =
+      let part = drop (recordStart k) s in
+      let r = refused-is (blockAt part) (recordReadRefusal part) (recordReadRefusal part) (sym e) in
+      (rw (← r .1) at (r .0), sym (record-long part (omega (arith, length-drop (recordStart k) s))) ∙ sym (r .1))
+
+  -- There is none behind the last.
+  pub read-beyond : {k : ℕ} → recordsIn s ≤ k → refused 9 ≡ readAt s k
+  unfolding readRecord recordReadRefusal
+  read-beyond {k} h =
+      let part = drop (recordStart k) s in
+      let short = too-few recordBytes part (omega (arith, length-drop (recordStart k) s)) in
+      refuses-by (blockAt part) why.Ragged (then-first _ (rw short (lit< tt)) ∙ short)
 
   -- The records before record k have passed: the fault of all is that of the others.
   abbrev pub PassedBefore : ℕ → Type 0

@@ -12,6 +12,7 @@ use Rattle.fields.proofs.Signed.{bits-lt, mag-natAbs}
 use Rattle.machine.specs.Checks.{within, axesWithin, limitsWithin, limitsRefusal, blockRefusal}
 use Rattle.machine.specs.Ranges.{leastAccel, mostAccel, leastSpeed, mostSpeed, leastJump, mostJump, leastChord, mostChord, leastTick, mostTick}
 use Rattle.machine.proofs.Bounds.{in-range, moves-below}
+use Rattle.machine.proofs.Labels.{label-fits}
 use Rattle.machine.specs.declared.Axes.{Axes}
 use Rattle.machine.specs.declared.Limits.{Limits}
 use Rattle.machine.specs.declared.Block.{Block}
@@ -21,7 +22,7 @@ use Rattle.tape.specs.Tape.{limitsLayout, limitsFields, moveBits, record
 pub block-fits : (b : Block) → blockRefusal b ≡ 0 → InWidths recordLayout (blockFields b)
 block-fits b e =
     let r = in-range b e in
-    (bits-lt moveBits (b .x), (bits-lt moveBits (b .y), (bits-lt moveBits (b .z), (omega (arith, r .feed-below), (omega (arith, r .radius-below), (omega (arith, r .mark-below), tt))))))
+    (bits-lt moveBits (b .x), (bits-lt moveBits (b .y), (bits-lt moveBits (b .z), (omega (arith, r .feed-below), (omega (arith, r .radius-below), (label-fits b e, tt))))))
 
 -- Its moves are within 21 bits of two's complement.
 pub moves-fit : (b : Block) → blockRefusal b ≡ 0 → (mag (b .x) < 2 ^ 20) × (mag (b .y) < 2 ^ 20) × (mag (b .z) < 2 ^ 20)

@@ -5,6 +5,7 @@ use native.Mathlib.Nat.{mod-mod}
 use native.Mathlib.Omega.{arith}
 use mathlib.Core.List.{List, _∷_, _++_, []}
 use lib.Dec.{eqb}
+use lib.IntN.{ℤ}
 use lib.ListN.{length, take, drop, getD, take-append-drop}
 use Rattle.fields.specs.Layouts.{split}
 use Rattle.fields.specs.Bytes.{Bytes}
@@ -12,6 +13,8 @@ use Rattle.fields.specs.Signed.{signedOf, bitsOf}
 use Rattle.fields.proofs.Signed.{signed-bits, bits-signed}
 use Rattle.machine.specs.Lists.{limitsFrom}
 use Rattle.machine.specs.Checks.{limitsRefusal, blockRefusal}
+use Rattle.machine.specs.Labels.{labelOf, labelledBlock}
+use Rattle.machine.proofs.Labels.{label-back, label-forth}
 use Rattle.machine.specs.declared.Limits.{Limits}
 use Rattle.machine.specs.declared.Block.{Block}
 use Rattle.tape.specs.Tape.{limitsBytes, limitsLayout, limitsFields, limitsNumber, limitsAt, zeroBits, recordBytes, moveBits, recordLayout, blockFields, blockFrom, blockNumber, blockAt}
@@ -27,21 +30,21 @@ move-whole : (v : ℕ) → bitsOf moveBits (signedOf moveBits (v % 2 ^ moveBits)
 move-whole v = bits-signed moveBits (v % 2 ^ moveBits) ∙ mod-mod v (2 ^ moveBits)
 
 fields-whole : (m : ℕ) → blockFields (blockFrom (split recordLayout m)) ≡ split recordLayout m
-unfolding split
+unfolding split labelledBlock
 fields-whole m =
-    λ i. move-whole (m / 2 ^ 107) i ∷ move-whole (m / 2 ^ 86) i ∷ move-whole (m / 2 ^ 65) i ∷ m / 2 ^ 45 % 2 ^ 20 ∷ m / 2 ^ 21 % 2 ^ 24 ∷ m / 2 ^ 0 % 2 ^ 21 ∷ []
+    let label = label-forth (move 107) (move 86) (move 65) (m / 2 ^ 45 % 2 ^ 20) (m / 2 ^ 21 % 2 ^ 24) (m / 2 ^ 0 % 2 ^ 21) (omega arith) in
+    λ i. move-whole (m / 2 ^ 107) i ∷ move-whole (m / 2 ^ 86) i ∷ move-whole (m / 2 ^ 65) i ∷ m / 2 ^ 45 % 2 ^ 20 ∷ m / 2 ^ 21 % 2 ^ 24 ∷ label i ∷ []
+  where
+    move : ℕ → ℤ
+    move k = signedOf moveBits (m / 2 ^ k % 2 ^ moveBits)
 
 block-whole : (b : Block) → blockRefusal b ≡ 0 → blockFrom (blockFields b) ≡ b
 block-whole b e =
     let m = moves-fit b e in
-    λ i. record {
-      x = signed-bits moveBits (b .x) (omega arith) (m .0) i;
-      y = signed-bits moveBits (b .y) (omega arith) (m .1) i;
-      z = signed-bits moveBits (b .z) (omega arith) (m .2) i;
-      feed = b .feed;
-      radius = b .radius;
-      mark = b .mark;
-    }
+    (λ i.
+    labelledBlock (signed-bits moveBits (b .x) (omega arith) (m .0) i) (signed-bits moveBits (b .y) (omega arith) (m .1) i)
+    (signed-bits moveBits (b .z) (omega arith) (m .2) i) (b .feed) (b .radius) (labelOf b))
+    ∙ label-back b e
 
 abbrev record-form : Form Block
 record-form =

@@ -14,6 +14,7 @@ use Rattle.fields.proofs.Layouts.{joined-cut, split-at}
 use Rattle.fields.proofs.Bytes.{number-add}
 use Rattle.fields.proofs.Fields.{split-part}
 use Rattle.fields.proofs.Signed.{signed-mod}
+use Rattle.machine.specs.Labels.{labelOf, labelledBlock}
 use Rattle.machine.specs.declared.Limits.{Limits}
 use Rattle.machine.specs.declared.Block.{Block}
 use Rattle.tape.specs.Tape.{limitsLayout, limitsNumber, limitsValues, moveBits, recordLayout, blockNumber, recordValues, blockAt}
@@ -31,39 +32,30 @@ module _ (s : List ℕ) {first second : ℕ} (e : first ≡ numberOf (take 8 s))
   feed-is : first % 2 * 2 ^ 19 + second / 2 ^ 45 ≡ getD (recordValues s) 3 0
   feed-is = sym (value 3 ∙ part-across first second 45 1 19 h ∙ omega (arith, shr-lt {n = second} 19 45 h))
 
-  mark-is : second % 2 ^ 21 ≡ getD (recordValues s) 5 0
-  mark-is = sym (value 5 ∙ part-lower first second 0 21 {t = 64} (omega arith) ∙ omega arith)
+  label-is : second % 2 ^ 21 ≡ getD (recordValues s) 5 0
+  label-is = sym (value 5 ∙ part-lower first second 0 21 {t = 64} (omega arith) ∙ omega arith)
 
   -- The block that they say.
   pub block-of-words :
-      _≡_ {A = Block} record {
-        x = signedOf moveBits (first / 2 ^ 43);
-        y = signedOf moveBits (first / 2 ^ 22);
-        z = signedOf moveBits (first / 2);
-        feed = first % 2 * 2 ^ 19 + second / 2 ^ 45;
-        radius = second / 2 ^ 21 % 2 ^ 24;
-        mark = second % 2 ^ 21;
-      } (blockAt s)
+      labelledBlock (signedOf moveBits (first / 2 ^ 43)) (signedOf moveBits (first / 2 ^ 22)) (signedOf moveBits (first / 2))
+      (first % 2 * 2 ^ 19 + second / 2 ^ 45) (second / 2 ^ 21 % 2 ^ 24) (second % 2 ^ 21)
+      ≡ blockAt s
   unfolding blockAt
-  block-of-words = λ i. record {
-    x = move 0 43 (value 0 ∙ part-upper first second 64 43 21 h) i;
-    y = move 1 22 (value 1 ∙ part-upper first second 64 22 21 h) i;
-    z = move 2 1 (value 2 ∙ part-upper first second 64 1 21 h) i;
-    feed = feed-is i;
-    radius = sym (value 4 ∙ part-lower first second 21 24 {t = 64} (omega arith)) i;
-    mark = mark-is i;
-  }
+  block-of-words = λ i.
+      labelledBlock (move 0 43 (value 0 ∙ part-upper first second 64 43 21 h) i) (move 1 22 (value 1 ∙ part-upper first second 64 22 21 h) i)
+      (move 2 1 (value 2 ∙ part-upper first second 64 1 21 h) i) (feed-is i) (sym (value 4 ∙ part-lower first second 21 24 {t = 64} (omega arith)) i)
+      (label-is i)
 
 -- The two words of a block's number: the feed is cut between them.
 pub words-of-block : (b : Block) {x y z first second : ℕ} → x ≡ bitsOf moveBits (b .x) → y ≡ bitsOf moveBits (b .y) → z ≡ bitsOf moveBits (b .z)
     → first ≡ x * 2 ^ 43 + y * 2 ^ 22 + z * 2 + b .feed / 2 ^ 19
-    → second ≡ b .feed % 2 ^ 19 * 2 ^ 45 + b .radius * 2 ^ 21 + b .mark
+    → second ≡ b .feed % 2 ^ 19 * 2 ^ 45 + b .radius * 2 ^ 21 + labelOf b
     → first * 2 ^ 64 + second ≡ blockNumber b
 unfolding blockNumber joined
 words-of-block b {x} {y} {z} {first} {second} p q r e f =
     sym (
     joined-cut (21 ∷ 21 ∷ 21 ∷ []) (24 ∷ 21 ∷ []) (bitsOf moveBits (b .x) ∷ bitsOf moveBits (b .y) ∷ bitsOf moveBits (b .z) ∷ [])
-    (b .radius ∷ b .mark ∷ []) 1 19 (b .feed) refl
+    (b .radius ∷ labelOf b ∷ []) 1 19 (b .feed) refl
     ∙ omega arith
     )
 

@@ -171,19 +171,22 @@ drop-min zero s = rw zero-min
 drop-min (suc n) [] = rw min-zero
 drop-min (suc n) (x ∷ s) = rw suc-min-suc (drop-min n s)
 
--- The part that is lent begins at record k, or is empty at the tape's end; what the writer leaves is put back.
+-- The part that is lent begins at record k, or is empty at the tape's end;
+pub lent-part : (k : ℕ) (s : List ℕ) (from : ℕ) → from ≡ min (recordStart k) (length s) → midOf from (length s - from) s ≡ drop (recordStart k) s
+lent-part k s from e =
+    take-all (length s - from) (drop from s) (le-of-eq (length-drop from s)) ∙ ap (λ (n : ℕ). drop n s) e ∙ drop-min (recordStart k) s
+
+-- what the writer leaves is put back.
 pub written-part : (b : Block) (k : ℕ) (s : List ℕ) (from : ℕ) {r : Checked} {left : List ℕ} → from ≡ min (recordStart k) (length s)
     → Wrote (recordWriteRefusal b (midOf from (length s - from) s)) (recordWritten b (midOf from (length s - from) s)) r left
     → Wrote (tapeWriteRefusal b k s) (tapeWritten b k s) r (putMid from (length s - from) s left)
 unfolding tapeWriteRefusal tapeWritten
 written-part b k s from e w =
-    let all = le-of-eq (length-drop from s) in
-    let lent : midOf from (length s - from) s ≡ drop (recordStart k) s =
-    take-all (length s - from) (drop from s) all ∙ ap (λ (n : ℕ). drop n s) e ∙ drop-min (recordStart k) s in
+    let lent = lent-part k s from e in
     let before : take from s ≡ take (recordStart k) s = ap (λ (n : ℕ). take n s) e ∙ take-min (recordStart k) s in
     record {
       number = w .number ∙ ap (recordWriteRefusal b) lent;
       bytes =
-          (λ i. before i ++ ((w .bytes ∙ ap (recordWritten b) lent) i ++ drop-of-length-le (drop from s) all i))
+          (λ i. before i ++ ((w .bytes ∙ ap (recordWritten b) lent) i ++ drop-of-length-le (drop from s) (le-of-eq (length-drop from s)) i))
           ∙ ap (λ (t : List ℕ). take (recordStart k) s ++ t) (append-nil (recordWritten b (drop (recordStart k) s)));
     }

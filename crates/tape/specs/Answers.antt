@@ -76,14 +76,21 @@ recordMeans (rec.Refused why) = refused (refusalNumber why)
 unfoldable pub readRecord : List ℕ → Outcome ℕ Block
 readRecord s = orRefused (recordReadRefusal s) (blockAt s)
 
+-- and in its place: record k of a tape, k counted from 0; one that is not there is refused by 9
+abbrev pub readAt : List ℕ → (k : ℕ) → Outcome ℕ Block
+readAt s k = readRecord (drop (recordStart k) s)
+
 -- the records in turn: the first fault of these blocks, the first of which has place p
 unfoldable pub faultFrom : (p : ℕ) → List Block → Fault
 faultFrom p [] = 0 at 0
 faultFrom p (b ∷ rest) = blockRefusal b at p else faultFrom (suc p) rest
 
--- greatest length of a tape: 2,048 records
+-- most blocks on a tape, and the greatest length of a tape in bytes
+abbrev pub mostBlocks : ℕ
+mostBlocks = 2048
+
 abbrev pub mostBytes : ℕ
-mostBytes = 32_792
+mostBytes = recordStart mostBlocks
 
 -- 10 where a tape is longer, else 0
 abbrev pub manyIn : List ℕ → ℕ

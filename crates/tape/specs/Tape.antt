@@ -5,6 +5,7 @@ use lib.ListN.{length, take, drop, getD}
 use Rattle.fields.specs.Layouts.{joined, split}
 use Rattle.fields.specs.Bytes.{numberOf}
 use Rattle.fields.specs.Signed.{signedOf, bitsOf}
+use Rattle.machine.specs.Labels.{labelOf, labelledBlock}
 use Rattle.machine.specs.Lists.{limitNumbers, limitsFrom}
 use Rattle.machine.specs.declared.Limits.{Limits}
 use Rattle.machine.specs.declared.Block.{Block}
@@ -35,7 +36,7 @@ limitsAt s = limitsFrom (limitsValues s)
 unfoldable pub zeroBits : List ℕ → ℕ
 zeroBits s = getD (limitsValues s) 9 0
 
--- a record: how many bytes, the bits of a move, and the widths in bits of move X, Y, Z, feed, radius and mark
+-- a record: how many bytes, the bits of a move, and the widths in bits of move X, Y, Z, feed, radius and label
 abbrev pub recordBytes : ℕ
 recordBytes = 16
 
@@ -47,19 +48,12 @@ recordLayout = moveBits ∷ moveBits ∷ moveBits ∷ 20 ∷ 24 ∷ 21 ∷ []
 
 -- the values of these fields, of a block; its moves by two's complement
 abbrev pub blockFields : Block → List ℕ
-blockFields b = bitsOf moveBits (b .x) ∷ bitsOf moveBits (b .y) ∷ bitsOf moveBits (b .z) ∷ b .feed ∷ b .radius ∷ b .mark ∷ []
+blockFields b = bitsOf moveBits (b .x) ∷ bitsOf moveBits (b .y) ∷ bitsOf moveBits (b .z) ∷ b .feed ∷ b .radius ∷ labelOf b ∷ []
 
 -- the block that the values of these fields say
 abbrev pub blockFrom : List ℕ → Block
 blockFrom vs =
-    record {
-      x = signedOf moveBits (getD vs 0 0);
-      y = signedOf moveBits (getD vs 1 0);
-      z = signedOf moveBits (getD vs 2 0);
-      feed = getD vs 3 0;
-      radius = getD vs 4 0;
-      mark = getD vs 5 0;
-    }
+    labelledBlock (signedOf moveBits (getD vs 0 0)) (signedOf moveBits (getD vs 1 0)) (signedOf moveBits (getD vs 2 0)) (getD vs 3 0) (getD vs 4 0) (getD vs 5 0)
 
 -- a block as the number that its 16 bytes write
 unfoldable pub blockNumber : Block → ℕ

@@ -12,8 +12,10 @@ use machine::Limits;
 pub const LIMITS_BYTES: usize = 24;
 
 pub const RECORD_BYTES: usize = 16;
-// Greatest length of a tape in bytes: its limits and 2,048 records.
-pub const MOST_BYTES: usize = 32_792;
+// Most blocks on a tape, and the greatest length of a tape in bytes: its limits and so many records.
+pub const MOST_BLOCKS: usize = 2_048;
+
+pub const MOST_BYTES: usize = LIMITS_BYTES + RECORD_BYTES * MOST_BLOCKS;
 
 // The answer of reading limits.
 pub enum LimitsRead {

@@ -5,14 +5,16 @@ ghost use lib.ListN.{length};
 ghost use Rattle.fields.specs.Layouts.{InWidths};
 ghost use Rattle.fields.specs.Bytes.{withBytes};
 ghost use Rattle.fields.specs.Fields.{Bits};
-ghost use Rattle.tape.specs.Tape.{blockAt, blockFields, blockNumber, recordBytes, recordLayout, recordStart};
-ghost use Rattle.tape.specs.Answers.{readRecord, recordMeans, recordWriteRefusal, recordWritten, tapeWriteRefusal, tapeWritten, Wrote};
+ghost use Rattle.tape.specs.Tape.{blockAt, blockFields, blockNumber, recordBytes, recordLayout, recordStart, recordsIn};
+ghost use Rattle.tape.specs.Answers.{readAt, readRecord, recordMeans, recordWriteRefusal, recordWritten, tapeWriteRefusal, tapeWritten, Wrote};
 use crate::LIMITS_BYTES;
 use crate::RECORD_BYTES;
 use crate::RecordRead;
 use display::Checked;
 use display::Refusal;
 use machine::Block;
+use machine::blocks::label_of;
+use machine::blocks::labelled_block;
 use machine::check::check_block;
 
 // Bits of a move.
@@ -33,14 +35,18 @@ fn decode_record(s: &[u8]) -> Block
 {
     let first = fields::read_word(s, 0);
     let second = fields::read_word(s, 8);
-    Block {
-        x: fields::to_signed(first >> 43, MOVE),
-        y: fields::to_signed(first >> 22, MOVE),
-        z: fields::to_signed(first >> 1, MOVE),
-        feed: feed_of(first, second),
-        radius: (second >> 21) % (1 << 24),
-        mark: second % (1 << 21),
-    }
+    let x = fields::to_signed(first >> 43, MOVE);
+    let y = fields::to_signed(first >> 22, MOVE);
+    let z = fields::to_signed(first >> 1, MOVE);
+    let feed = feed_of(first, second);
+    labelled_block(
+        x,
+        y,
+        z,
+        feed,
+        (second >> 21) % (1 << 24),
+        second % (1 << 21),
+    )
 }
 
 // The first word of a record, from the bits of its moves and its feed.
@@ -52,11 +58,11 @@ fn first_word(x: u64, y: u64, z: u64, feed: u64) -> u64
 }
 
 // The second word of a record.
-fn second_word(feed: u64, radius: u64, mark: u64) -> u64
-    requires { ⌜ (radius < 2 ^ 24) × (mark < 2 ^ 21) ⌝ }
-    ensures { λ r. ⌜ Bits 64 (feed % 2 ^ 19 * 2 ^ 45 + radius * 2 ^ 21 + mark) r ⌝ }
+fn second_word(feed: u64, radius: u64, label: u64) -> u64
+    requires { ⌜ (radius < 2 ^ 24) × (label < 2 ^ 21) ⌝ }
+    ensures { λ r. ⌜ Bits 64 (feed % 2 ^ 19 * 2 ^ 45 + radius * 2 ^ 21 + label) r ⌝ }
 {
-    ((feed % (1 << 19)) << 45) + (radius << 21) + mark
+    ((feed % (1 << 19)) << 45) + (radius << 21) + label
 }
 
 // Stores a block whose values fit their fields in the first 16 bytes.
@@ -68,7 +74,8 @@ fn store_record(b: Block, out: &mut [u8])
     let y = fields::to_bits(b.y, MOVE);
     let z = fields::to_bits(b.z, MOVE);
     let first = first_word(x, y, z, b.feed);
-    let second = second_word(b.feed, b.radius, b.mark);
+    let label = label_of(b);
+    let second = second_word(b.feed, b.radius, label);
     fields::write_word(out, 0, first);
     fields::write_word(out, 8, second);
 }
@@ -116,6 +123,27 @@ fn start_within(k: usize, bytes: usize) -> usize
         return bytes;
     }
     LIMITS_BYTES + behind
+}
+
+// How many records a tape has behind its limits.
+pub fn records_in(s: &[u8]) -> usize
+    ensures { λ r. ⌜ r ≡ recordsIn (now (s .entry)) ⌝ }
+{
+    if s.len() < LIMITS_BYTES {
+        return 0;
+    }
+    (s.len() - LIMITS_BYTES) / RECORD_BYTES
+}
+
+// Reads record k of a tape, k counted from 0, wherever the tape ends: 9 where that is before the record does, then 2 to 6.
+pub fn record_at(s: &[u8], k: usize) -> RecordRead
+    ensures { λ r. ⌜ recordMeans r ≡ readAt (now (s .entry)) k ⌝ }
+{
+    if k < records_in(s) {
+        let from = LIMITS_BYTES + RECORD_BYTES * k;
+        return read_record(&s[from..]);
+    }
+    RecordRead::Refused(Refusal::Ragged)
 }
 
 // Writes a block as record k of a tape, k counted from 0: the writer of a record is lent the part that begins at byte

@@ -1,8 +1,5 @@
 // A whole tape: its limits, and then its records to the end.
 ghost use mathlib.Core.Path.{_≡_};
-ghost use Prim.Native.Nat.{_≤_};
-ghost use lib.ListN.{length};
-ghost use Rattle.tape.specs.Tape.{limitsBytes};
 ghost use Rattle.tape.specs.Answers.{checkRecords, checkTape, limitsMeans, readHead, tapeMeans};
 use crate::LIMITS_BYTES;
 use crate::LimitsRead;
@@ -11,7 +8,8 @@ use crate::RECORD_BYTES;
 use crate::RecordRead;
 use crate::TapeCheck;
 use crate::limits::read_limits;
-use crate::records::read_record;
+use crate::records::record_at;
+use crate::records::records_in;
 use display::Refusal;
 
 // The limits of a whole tape, by the checks that come before its records: 10, 9, 1.
@@ -32,14 +30,12 @@ pub fn read_head(s: &[u8]) -> LimitsRead
 
 // Checks each record in turn. Each lies whole in the tape, so that reading one is never refused by 9.
 fn check_records(s: &[u8]) -> TapeCheck
-    requires { ⌜ limitsBytes ≤ length (now s) ⌝ }
     ensures { λ r. ⌜ tapeMeans r ≡ checkRecords (now (s .entry)) ⌝ }
 {
-    let n = (s.len() - LIMITS_BYTES) / RECORD_BYTES;
+    let n = records_in(s);
     let mut k: usize = 0;
     while k < n {
-        let from = LIMITS_BYTES + RECORD_BYTES * k;
-        if let RecordRead::Refused(why) = read_record(&s[from..]) {
+        if let RecordRead::Refused(why) = record_at(s, k) {
             return TapeCheck::Refused(why, k + 1);
         }
         k += 1;

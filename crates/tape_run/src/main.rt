@@ -17,6 +17,7 @@ use libc::STDOUT_FILENO;
 use machine::Axes;
 use machine::Block;
 use machine::Limits;
+use machine::blocks::plain_block;
 use tape::LimitsRead;
 use tape::RecordRead;
 use tape::TapeCheck;
@@ -150,14 +151,14 @@ fn limits_of(head: &[u8; HEAD]) -> Limits {
 }
 
 fn block_of(head: &[u8; HEAD]) -> Block {
-    Block {
-        x: signed(head, 3),
-        y: signed(head, 4),
-        z: signed(head, 5),
-        feed: word(head, 6),
-        radius: word(head, 7),
-        mark: word(head, 8),
-    }
+    plain_block(
+        signed(head, 3),
+        signed(head, 4),
+        signed(head, 5),
+        word(head, 6),
+        word(head, 7),
+        word(head, 8),
+    )
 }
 
 fn read_limits(bytes: &[u8]) {

@@ -9,9 +9,8 @@ use lib.ListN.{length}
 use Rattle.display.specs.Display.{Fault, _at_}
 use Rattle.display.proofs.Answers.{refusal-above, at-zero}
 use Rattle.tape.specs.Answers.{tapeFault, tapeRefusal}
-use Rattle.profile.specs.Passes.{planOf}
 use Rattle.tape.specs.Tape.{recordsIn}
-use Rattle.tapeplan.specs.Planned.{tapeSpans, planFault, PlannedTape, TapeDemand3, plannedMeans}
+use Rattle.tapeplan.specs.Planned.{tapePlan, planFault, PlannedTape, TapeDemand3, plannedMeans}
 use Rattle.tapeplan.specs.declared.TapePlanned.{TapePlanned}
 use Rattle.tapeplan.specs.declared.TapePlanned.the-variants.{Planned, Refused}
 
@@ -27,7 +26,7 @@ tape-demand3 {s} {before} {r} p passed fits =
     let zero = ap (λ (f : Fault). f .number) none in
     record {
       answered = planned r (p .fault ∙ none);
-      plan = p .list ∙ at-zero (planOf 0 (tapeSpans s)) before zero;
+      plan = p .list ∙ at-zero (tapePlan s) before zero;
       highest = p .highest zero;
     }
   where

@@ -8,64 +8,85 @@ use lib.ListN.{length, take, set}
 use mathlib.Core.Bool.{cond}
 use Rattle.profile.specs.Line.{Span, capAt, reachAt}
 use Rattle.machine.specs.Checks.{blockRefusal}
-use Rattle.machine.specs.Numbers.{junctionCap, numbersOf, reachOf}
+use Rattle.machine.specs.Numbers.{Joinable, LimitsBelow, junctionCap, junctionFrom, numbersOf, reachOf}
 use Rattle.machine.specs.Line.{spansOf}
 use Rattle.machine.specs.declared.Block.{Block}
-use Rattle.machine.specs.declared.Limits.{Limits}
+use Rattle.machine.specs.declared.Machine.{Machine}
 use Rattle.machine.specs.declared.Numbers.{Numbers}
+use Rattle.machine.proofs.Junctions.{junction-from-numbers, numbers-joinable}
 use Rattle.machine.proofs.Spans.{spans-length, spans-first, spans-cap, spans-reach}
 use Rattle.tape.specs.Tape.{recordAt, recordsIn, tapeBlocks}
 use Rattle.tape.proofs.Faults.{length-blocks, getD-blocks, PassedBefore, passed-next}
 use Rattle.tapeplan.specs.Lent.{lineOf}
+use Rattle.tapeplan.specs.Sheet.{Measures, Keeps}
 use Rattle.tapeplan.proofs.Filled.{Filled, filled-more, filled-line}
+use Rattle.tapeplan.proofs.Sheets.{measures-next}
 
-module _ (l : Limits) (s : List ℕ) where
+module _ (m : Machine) (s : List ℕ) where
   abbrev spans : List Span
-  spans = spansOf l (tapeBlocks s)
+  spans = spansOf m (tapeBlocks s)
 
-  -- the cap where a block after the first begins, and that of any block by the block before it
-  pub cap-next : (k : ℕ) → suc k < recordsIn s → junctionCap l (recordAt s k) (recordAt s (suc k)) ≡ capAt spans (suc k)
+  -- the cap where a block after the first begins, and that of any block from the numbers of the block before it
+  pub cap-next : (k : ℕ) → suc k < recordsIn s → junctionCap (m .limits) (recordAt s k) (recordAt s (suc k)) ≡ capAt spans (suc k)
   cap-next k h =
-      (λ i. junctionCap l (sym (getD-blocks s {k = k} (recordAt s 0) (omega arith)) i) (sym (getD-blocks s (recordAt s 0) h) i))
-      ∙ sym (spans-cap (recordAt s 0) l (tapeBlocks s) k (omega (arith, length-blocks s)))
+      (λ i. junctionCap (m .limits) (sym (getD-blocks s {k = k} (recordAt s 0) (omega arith)) i) (sym (getD-blocks s (recordAt s 0) h) i))
+      ∙ sym (spans-cap (recordAt s 0) m (tapeBlocks s) k (omega (arith, length-blocks s)))
 
-  cap-is : (k : ℕ) (before : Block) → k < recordsIn s → (0 < k → before ≡ recordAt s (k - 1)) → cond (eqb k 0) 0 (junctionCap l before (recordAt s k)) ≡ capAt spans k
-  cap-is zero before h e = sym (spans-first l (tapeBlocks s))
-  cap-is (suc k) before h e =
+  -- what is known of the block before block k
+  pub record Known (before : Block) (known : Numbers) (k : ℕ) : Type 0 where
+    pub block : before ≡ recordAt s (k - 1)
+    pub passes : blockRefusal before ≡ 0
+    pub numbers : known ≡ numbersOf m before
+
+  pub known-joinable : {before b : Block} {known n : Numbers} {k : ℕ} → LimitsBelow (m .limits) → Known before known k → blockRefusal b ≡ 0 → n ≡ numbersOf m b
+      → Joinable (m .limits .jump) before known b n
+  known-joinable {before} {b} below v p e = rw (v .numbers, e) (numbers-joinable m before b below (v .passes) p)
+
+  cap-is : (k : ℕ) {before : Block} {known : Numbers} → k < recordsIn s → (0 < k → Known before known k)
+      → cond (eqb k 0) 0 (junctionFrom (m .limits .jump) before known (recordAt s k) (numbersOf m (recordAt s k))) ≡ capAt spans k
+  cap-is zero h e = sym (spans-first m (tapeBlocks s))
+  cap-is (suc k) {before} {known} h e =
       let back : suc k - 1 ≡ k = omega arith in
-      ap (λ t. cond t 0 (junctionCap l before (recordAt s (suc k)))) (eqb·suc-zero k)
-      ∙ ap (λ (b : Block). junctionCap l b (recordAt s (suc k))) (e (omega arith) ∙ ap (recordAt s) back)
+      let known′ = e (omega arith) in
+      let block = known′ .block ∙ ap (recordAt s) back in
+      let b = recordAt s (suc k) in
+      ap (λ t. cond t 0 (junctionFrom (m .limits .jump) before known b (numbersOf m b))) (eqb·suc-zero k)
+      ∙ (λ i. junctionFrom (m .limits .jump) (block i) ((known′ .numbers ∙ ap (numbersOf m) block) i) b (numbersOf m b))
+      ∙ junction-from-numbers m (recordAt s k) b
       ∙ cap-next k h
 
   -- its reach
-  pub reach-is : (k : ℕ) → k < recordsIn s → reachOf l (recordAt s k) ≡ reachAt spans k
-  reach-is k h = sym (spans-reach (recordAt s 0) l (tapeBlocks s) k (omega (arith, length-blocks s)) ∙ ap (reachOf l) (getD-blocks s (recordAt s 0) h))
+  pub reach-is : (k : ℕ) → k < recordsIn s → reachOf m (recordAt s k) ≡ reachAt spans k
+  reach-is k h = sym (spans-reach (recordAt s 0) m (tapeBlocks s) k (omega (arith, length-blocks s)) ∙ ap (reachOf m) (getD-blocks s (recordAt s 0) h))
 
-  -- the first k records have passed, and the lists have their caps and reaches
-  pub record Surveying (caps reaches : List ℕ) (before : Block) (known : Numbers) (k : ℕ) : Type 0 where
+  -- the first k records have passed, the lists have their caps and reaches, and the sheet has what is measured of them
+  pub record Surveying (sheet caps reaches : List ℕ) (before : Block) (known : Numbers) (k : ℕ) : Type 0 where
     pub passed : PassedBefore s k
+    pub measured : Measures m s sheet k
     pub capped : Filled caps k (capAt spans)
     pub reached : Filled reaches k (reachAt spans)
-    pub previous : 0 < k → (before ≡ recordAt s (k - 1)) × (blockRefusal before ≡ 0) × (known ≡ numbersOf l before)
+    pub previous : 0 < k → Known before known k
 
   -- one record more
-  pub survey-next : {caps reaches : List ℕ} {before : Block} {known : Numbers} (k : ℕ) (b : Block) (n : Numbers) (cap : ℕ)
-      → Surveying caps reaches before known k → k < recordsIn s → k < length caps → k < length reaches → b ≡ recordAt s k → blockRefusal b ≡ 0 → n ≡ numbersOf l b
-      → cap ≡ cond (eqb k 0) 0 (junctionCap l before b) → Surveying (set caps k cap) (set reaches k (n .reach)) b n (k + 1)
+  pub survey-next : {sheet sheet′ caps reaches : List ℕ} {before : Block} {known : Numbers} (k : ℕ) (b : Block) (n : Numbers) (cap : ℕ)
+      → Surveying sheet caps reaches before known k → k < recordsIn s → k < length caps → k < length reaches → b ≡ recordAt s k → blockRefusal b ≡ 0 → n ≡ numbersOf m b
+      → Keeps sheet k (b .mark) n sheet′ → cap ≡ cond (eqb k 0) 0 (junctionFrom (m .limits .jump) before known b n) → Surveying sheet′ (set caps k cap) (set reaches k (n .reach)) b n (k + 1)
   unfolding numbersOf
-  survey-next {caps} {reaches} {before} k b n cap v h cs rs e p q f =
+  survey-next {caps} {reaches} {before} {known} k b n cap v h cs rs e p q kept f =
       let back : k ≡ k + 1 - 1 = omega arith in
       record {
         passed = passed-next s (v .passed) h (ap blockRefusal (sym e) ∙ p);
-        capped = filled-more caps k cap (capAt spans) cs (f ∙ ap (λ (c : Block). cond (eqb k 0) 0 (junctionCap l before c)) e ∙ cap-is k before h (λ z. v .previous z .0)) (v .capped);
-        reached = filled-more reaches k (n .reach) (reachAt spans) rs (ap (λ (m : Numbers). m .reach) q ∙ ap (reachOf l) e ∙ reach-is k h) (v .reached);
-        previous = λ z. (e ∙ ap (recordAt s) back, p, q);
+        measured = measures-next m s k (v .measured) kept e q;
+        capped = filled-more caps k cap (capAt spans) cs
+            (f ∙ (λ i. cond (eqb k 0) 0 (junctionFrom (m .limits .jump) before known (e i) ((q ∙ ap (numbersOf m) e) i))) ∙ cap-is k h (v .previous)) (v .capped);
+        reached = filled-more reaches k (n .reach) (reachAt spans) rs (ap (λ (o : Numbers). o .reach) q ∙ ap (reachOf m) e ∙ reach-is k h) (v .reached);
+        previous = λ z. record { block = e ∙ ap (recordAt s) back; passes = p; numbers = q };
       }
 
   -- all of them
-  pub survey-all : {caps reaches : List ℕ} {before : Block} {known : Numbers} {k : ℕ} → Surveying caps reaches before known k → recordsIn s ≤ k → recordsIn s ≤ length caps → recordsIn s ≤ length reaches
+  pub survey-all : {sheet caps reaches : List ℕ} {before : Block} {known : Numbers} {k : ℕ} → Surveying sheet caps reaches before known k → recordsIn s ≤ k → recordsIn s ≤ length caps → recordsIn s ≤ length reaches
       → lineOf (take (recordsIn s) caps) (take (recordsIn s) reaches) ≡ spans
   survey-all {caps} {reaches} v h cs rs =
-      let n : length spans ≡ recordsIn s = spans-length l (tapeBlocks s) ∙ length-blocks s in
-      ap (λ (m : ℕ). lineOf (take m caps) (take m reaches)) (sym n)
+      let n : length spans ≡ recordsIn s = spans-length m (tapeBlocks s) ∙ length-blocks s in
+      ap (λ (c : ℕ). lineOf (take c caps) (take c reaches)) (sym n)
       ∙ filled-line spans caps reaches (omega arith) (omega arith) (λ i b. v .capped i (omega arith)) (λ i b. v .reached i (omega arith))

@@ -1,4 +1,5 @@
 -- What planning a whole tape answers and leaves.
 pub mod Lent
 pub mod Planned
+pub mod Sheet
 pub mod Survey

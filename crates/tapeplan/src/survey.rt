@@ -1,35 +1,35 @@
-// What a plan needs of a tape: the junction cap where each block begins, and its reach. Each record is decoded and its
-// numbers are worked out once.
+// What a plan needs of a tape, the junction cap where each block begins and its reach, and what a listing needs besides,
+// in a sheet. Each record is decoded and its numbers are worked out once.
 ghost use Prim.Native.Nat.{_≤_};
 ghost use lib.ListN.{length};
 ghost use Rattle.machine.specs.Numbers.{LimitsBelow};
-ghost use Rattle.tape.specs.Tape.{limitsBytes, recordsIn};
+ghost use Rattle.tape.specs.Tape.{recordsIn};
 ghost use Rattle.tapeplan.specs.Survey.{Surveyed};
 use crate::junctions::cap_of;
-use machine::Block;
-use machine::Limits;
+use crate::sheet::keep;
+use machine::Machine;
 use machine::Numbers;
+use machine::blocks::no_block;
 use machine::measure::numbers;
-use tape::LIMITS_BYTES;
-use tape::RECORD_BYTES;
 use tape::RecordRead;
 use tape::TapeCheck;
-use tape::records::read_record;
+use tape::records::record_at;
+use tape::records::records_in;
 
-// Checks each record in turn and fills the lists with the caps and the reaches of the blocks.
-pub fn survey(s: &[u8], l: Limits, caps: &mut [u64], reaches: &mut [u64]) -> TapeCheck
-    requires { ⌜ LimitsBelow l × (limitsBytes ≤ length (now s)) × (recordsIn (now s) ≤ length (now caps)) × (recordsIn (now s) ≤ length (now reaches)) ⌝ }
-    ensures { λ r. ⌜ Surveyed l (now (s .entry)) (now (caps .exit)) (now (reaches .exit)) r ⌝ }
+// Checks each record in turn and fills the lists with the caps and the reaches of the blocks, and the sheet with a row for
+// each as far as it has rows.
+pub fn survey(
+    s: &[u8],
+    m: Machine,
+    sheet: &mut [u64],
+    caps: &mut [u64],
+    reaches: &mut [u64],
+) -> TapeCheck
+    requires { ⌜ LimitsBelow (m .limits) × (recordsIn (now s) ≤ length (now caps)) × (recordsIn (now s) ≤ length (now reaches)) ⌝ }
+    ensures { λ r. ⌜ Surveyed m (now (s .entry)) (now (sheet .exit)) (now (caps .exit)) (now (reaches .exit)) r ⌝ }
 {
-    let n = (s.len() - LIMITS_BYTES) / RECORD_BYTES;
-    let mut before = Block {
-        x: 0,
-        y: 0,
-        z: 0,
-        feed: 0,
-        radius: 0,
-        mark: 0,
-    };
+    let count = records_in(s);
+    let mut before = no_block();
     let mut known = Numbers {
         length: 0,
         accel: 0,
@@ -37,18 +37,18 @@ pub fn survey(s: &[u8], l: Limits, caps: &mut [u64], reaches: &mut [u64]) -> Tap
         cap: 0,
     };
     let mut k: usize = 0;
-    while k < n {
-        let from = LIMITS_BYTES + RECORD_BYTES * k;
-        let b = match read_record(&s[from..]) {
+    while k < count {
+        let b = match record_at(s, k) {
             RecordRead::Refused(why) => return TapeCheck::Refused(why, k + 1),
             RecordRead::Read(b) => b,
         };
-        let m = numbers(l, b);
-        caps[k] = cap_of(k, l, before, known, b, m);
-        reaches[k] = m.reach;
+        let n = numbers(m, b);
+        keep(sheet, k, b.mark, n);
+        caps[k] = cap_of(k, m.limits.jump, before, known, b, n);
+        reaches[k] = n.reach;
         before = b;
-        known = m;
+        known = n;
         k += 1;
     }
-    TapeCheck::Accepted(n)
+    TapeCheck::Accepted(count)
 }

@@ -2,14 +2,14 @@
 use mathlib.Core.Path.{_≡_, refl, sym, ap, _∙_}
 use Prim.Native.Nat.{ℕ, zero, suc, _+_, _-_, _*_, _/_, _%_, _^_, _≤_, _<_}
 use native.Mathlib.Omega.{arith}
-use native.Mathlib.Nat.{pow-suc}
+use native.Mathlib.Nat.{pow-suc, one-le-pow, div-one, div-div-eq-div-mul}
 use mathlib.Core.Bool.{Bool, true, false}
-use mathlib.Core.List.{List, _∷_, _++_, append-nil, []}
+use mathlib.Core.List.{List, _∷_, _++_, append-assoc, append-nil, []}
 use lib.Dec.{ltb}
 use lib.ListN.{length, getD, length-append, List·getD-append}
 use lib.Seq.{append-snoc}
 use borrow.Author.Tests.{ltb-true, ltb-false, lt-ltb, le-ltb}
-use Rattle.text.specs.Text.{digit, digitsOf, decimal, valueBehind, value, OnlyDigits, Writes}
+use Rattle.text.specs.Text.{digit, digitsOf, decimal, lastDigits, valueBehind, value, OnlyDigits, Writes}
 
 -- Two cases: below ten, or not.
 by-ten : {A : Type 0} (n : ℕ) → (n < 10 → A) → (10 ≤ n → A) → A
@@ -44,6 +44,30 @@ decimal-one n h = rw (lt-ltb n 10 h)
 pub decimal-more : (n : ℕ) → 10 ≤ n → decimal n ≡ decimal (n / 10) ++ digit (n % 10) ∷ []
 unfolding decimal digitsOf
 decimal-more n h = rw (le-ltb n 10 h, digits-enough n (suc (n / 10)) (n / 10) (omega arith) (omega arith))
+
+-- The last k digits are k. In a number that has more they stand behind those of what is above them.
+length-digits : (k n : ℕ) → length (lastDigits k n) ≡ k
+length-digits zero n = refl
+length-digits (suc k) n = rw (length-append (lastDigits k (n / 10)) (digit (n % 10) ∷ []), length-digits k (n / 10)) (omega arith)
+
+pub decimal-last : (k n : ℕ) → 10 ^ k ≤ n → decimal n ≡ decimal (n / 10 ^ k) ++ lastDigits k n
+decimal-last zero n h = rw (div-one n, append-nil (decimal n))
+decimal-last (suc k) n h =
+    let some = pow-suc 10 k in
+    let above : n / 10 / 10 ^ k ≡ n / 10 ^ suc k = div-div-eq-div-mul n 10 (10 ^ k) ∙ ap (λ (d : ℕ). n / d) (omega arith) in
+    rw (decimal-more n (omega (arith, one-le-pow k 10 (omega arith))), decimal-last k (n / 10) (omega arith), above) (simp append-assoc)
+
+pub length-last : (k n : ℕ) → 10 ^ k ≤ n → length (decimal n) ≡ length (decimal (n / 10 ^ k)) + k
+length-last k n h = rw (decimal-last k n h, length-append (decimal (n / 10 ^ k)) (lastDigits k n), length-digits k n)
+
+-- A number below 100 has two digits, one below 1,000 three.
+pub decimal-two : (n : ℕ) → 10 ≤ n → n < 100 → decimal n ≡ digit (n / 10) ∷ digit (n % 10) ∷ []
+decimal-two n h l = rw (decimal-more n h, decimal-one (n / 10) (omega arith))
+
+pub decimal-three : (n : ℕ) → 100 ≤ n → n < 1_000 → decimal n ≡ lastDigits 3 n
+decimal-three n h l =
+    let first : n / 10 / 10 ≡ n / 10 / 10 % 10 = omega arith in
+    rw (decimal-more n (omega arith), decimal-two (n / 10) (omega arith) (omega arith), ← first)
 
 -- How many digits there are: at least one, and no more than k below the k-th power of ten.
 pub length-one : (n : ℕ) → n < 10 → length (decimal n) ≡ 1

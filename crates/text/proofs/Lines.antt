@@ -1,29 +1,17 @@
--- Numbers, spaced numbers, lines and rows as they are stored, and how long they are. From the laws of decimals and of texts stored.
+-- Spaced numbers, lines and rows as they are stored, and how long they are. From the laws of decimals and of texts stored.
 use mathlib.Core.Path.{_≡_, refl, _∙_}
-use Prim.Native.Nat.{ℕ, suc, _+_, _-_, _*_, _/_, _%_, _^_, _≤_, _<_}
+use Prim.Native.Nat.{ℕ, suc, _+_, _-_, _*_, _^_, _≤_, _<_}
 use native.Mathlib.Omega.{arith}
 use native.Mathlib.Numerals.{add-one}
 use mathlib.Core.List.{List, _∷_, _++_, append-nil, []}
 use lib.ListN.{length, getD, take, drop, set, length-append}
 use lib.Seq.{take-all, drop-cons, lt-length-set}
 use Rattle.text.specs.Store.{put, Stored}
-use Rattle.text.specs.Text.{space, lineFeed, digit, decimal, spaced, line, row, refusedWords}
-use Rattle.text.proofs.Decimal.{decimal-one, decimal-more, length-one, length-more, length-word}
-use Rattle.text.proofs.Store.{put-one, put-next, put-cons, put-last}
+use Rattle.text.specs.Text.{space, lineFeed, decimal, spaced, line, row, refusedWords}
+use Rattle.text.proofs.Decimal.{length-word}
+use Rattle.text.proofs.Store.{put-next, put-cons}
 
--- One digit of a number, from the last to the first, and one of several numbers: what is left to store leads to the same list.
-pub number-turn : (s : List ℕ) (at n last : ℕ) → 10 ≤ n → last + 1 ≡ at + length (decimal n) → last < length s
-    → put (set s last (digit (n % 10))) at (decimal (n / 10)) ≡ put s at (decimal n)
-number-turn s at n last h e l =
-    let place : last ≡ at + length (decimal (n / 10)) = omega (arith, length-more n h) in
-    rw (place, decimal-more n h) (put-last s at (decimal (n / 10)) (digit (n % 10)) (omega arith))
-
-pub number-end : (s : List ℕ) (at n last : ℕ) → n < 10 → last + 1 ≡ at + length (decimal n) → last < length s
-    → set s last (digit n) ≡ put s at (decimal n)
-number-end s at n last h e l =
-    let place : last ≡ at = omega (arith, length-one n h) in
-    rw (place, decimal-one n h) (put-one s at (digit n) (omega arith))
-
+-- One of several numbers: what is left to store leads to the same list.
 pub spaced-turn : (s : List ℕ) (at : ℕ) (numbers : List ℕ) (i : ℕ) {after : List ℕ} {end : ℕ} → at < length s → i < length numbers
     → Stored (set s at space) (at + 1) (decimal (getD numbers i 0)) end after
     → put after end (spaced (drop (i + 1) numbers)) ≡ put s at (spaced (drop i numbers))

@@ -6,7 +6,7 @@ use mathlib.Core.Bool.{Bool, true, false, cond}
 use mathlib.Core.List.{List, _∷_, _++_, append-assoc, append-nil, []}
 use lib.Dec.{leb}
 use lib.ListN.{length, getD, take, drop, set, length-append, length-drop, take-append-drop}
-use lib.Seq.{length-take-le, take-at, drop-at, drop-drop, drop-cons, set-split, getD-set-same, lt-length-set, take-set-le, drop-set-lt}
+use lib.Seq.{length-take-le, take-at, drop-at, drop-drop, drop-cons, set-split}
 use native.Mathlib.Nat.{add-assoc, add-zero}
 use native.Mathlib.Numerals.{add-one}
 use borrow.Author.Tests.{le-leb, lt-leb, leb-true, leb-false}
@@ -42,21 +42,6 @@ put-next s at t u l =
 pub put-cons : (s : List ℕ) (at b : ℕ) (t : List ℕ) → at < length s → put (set s at b) (at + 1) t ≡ put s at (b ∷ t)
 put-cons s at b t l = rw (put-one s at b l) (put-next s at (b ∷ []) t (omega arith))
 
--- The last byte of a text, and the text before it.
-pub put-last : (s : List ℕ) (at : ℕ) (t : List ℕ) (b : ℕ) → at + length t < length s
-    → put (set s (at + length t) b) at t ≡ put s at (t ++ b ∷ [])
-unfolding put
-put-last s at t b l =
-    let last : ℕ = at + length t in
-    let behind : drop last (set s last b) ≡ b ∷ drop (suc last) s =
-    rw (
-      drop-cons (set s last b) last 0 (lt-length-set s last b l),
-      getD-set-same s last b 0 l,
-      drop-set-lt (suc last) s last b (omega arith),
-    ) in
-    let e : at + length (t ++ b ∷ []) ≡ suc last = rw (length-append t (b ∷ [])) (omega arith) in
-    rw (behind, take-set-le at s last b (omega arith), e) (simp append-assoc)
-
 -- One byte of a text, as a loop stores them: the rest leads to the same list.
 pub bytes-turn : (s : List ℕ) (at : ℕ) (text : List ℕ) (i : ℕ) → at + i < length s → i < length text
     → put (set s (at + i) (getD text i 0)) (at + (i + 1)) (drop (i + 1) text) ≡ put s (at + i) (drop i text)
@@ -88,7 +73,7 @@ module _ (s : List ℕ) (at : ℕ) (t : List ℕ) (l : at + length t ≤ length 
   unfolding put
   length-put = rw (length-append (take at s ++ t) (drop (at + length t) s), before-text, length-drop (at + length t) s) (omega arith)
 
--- A text is stored behind a text, and one byte.
+-- A text is stored behind a text; no byte, a byte before a text, and one byte.
 pub stored-next : {s t u after both : List ℕ} {at next end : ℕ} → Stored s at t next after → Stored after next u end both → at ≤ length s
     → Stored s at (t ++ u) end both
 stored-next {s} {t} {u} {at} r q l =
@@ -97,8 +82,19 @@ stored-next {s} {t} {u} {at} r q l =
       next = rw (q .next, r .next, length-append t u) (omega arith);
     }
 
+pub stored-none : {s : List ℕ} {at : ℕ} → Stored s at [] at s
+stored-none {s} {at} = record { bytes = sym (put-none s at); next = sym (add-zero at) }
+
+pub stored-cons : {s t after : List ℕ} {at end : ℕ} (next b : ℕ) → next ≡ at + 1 → at < length s → Stored (set s at b) next t end after
+    → Stored s at (b ∷ t) end after
+stored-cons {s} {t} {at = at} next b e l r =
+    record {
+      bytes = r .bytes ∙ rw e (put-cons s at b t l);
+      next = omega (arith, r .next);
+    }
+
 pub stored-byte : {s : List ℕ} {at : ℕ} (b : ℕ) → at < length s → Stored s at (b ∷ []) (at + 1) (set s at b)
-stored-byte {s} {at} b l = record { bytes = put-one s at b l; next = refl }
+stored-byte {s} {at} b l = stored-cons (at + 1) b refl l stored-none
 
 -- What stands before the place behind a text: what stood before it, and the text.
 pub take-stored : {s t after : List ℕ} {at end : ℕ} → Stored s at t end after → at ≤ length s → take end after ≡ take at s ++ t

@@ -25,6 +25,11 @@ digitsOf (suc k) n = let more = digitsOf k (n / 10) ++ digit (n % 10) ∷ [] in 
 unfoldable pub decimal : ℕ → List ℕ
 decimal n = digitsOf (suc n) n
 
+-- the last k digits of n, zeros in front among them
+abbrev pub lastDigits : ℕ → ℕ → List ℕ
+lastDigits zero n = []
+lastDigits (suc k) n = lastDigits k (n / 10) ++ digit (n % 10) ∷ []
+
 -- every byte is a digit
 abbrev pub OnlyDigits : List ℕ → Type 0
 OnlyDigits [] = Unit

@@ -2,11 +2,14 @@
 // Nothing here knows what a number means. A text is stored whole, or not at all where it has too little room.
 
 ghost use mathlib.Core.Path.{_≡_};
-ghost use Prim.Native.Nat.{_+_, _≤_};
+ghost use Prim.Native.Nat.{_+_, _<_, _≤_};
 ghost use lib.Dec.{leb};
 ghost use lib.ListN.{length};
-ghost use Rattle.text.specs.Text.{decimal, Digits, spaced, line, row, header, refusedWords, refusedAt, refused, added, held, plan};
+ghost use Rattle.text.specs.Text.{decimal, lastDigits, Digits, spaced, line, row, header, refusedWords, refusedAt, refused, added, held, plan};
 ghost use Rattle.text.specs.Store.{Stored, Answered, placeBehind};
+
+// Bytes that a number and the space before it take at most.
+const MOST: usize = 21;
 
 // The place behind a text that was stored, or that there was too little room.
 pub enum Put {
@@ -37,21 +40,59 @@ fn digits(n: u64) -> usize
     count
 }
 
-// Stores n in decimal, the last digit first.
+// Stores the last three digits of n, zeros in front among them.
+fn store_group(out: &mut [u8], at: usize, n: u64) -> usize
+    requires { ⌜ at + 3 ≤ length (now out) ⌝ }
+    ensures { λ r. ⌜ Stored (now (out .entry)) at (lastDigits 3 n) r (now (out .exit)) ⌝ }
+{
+    let group = n % 1_000;
+    out[at] = (48 + group / 100) as u8;
+    out[at + 1] = (48 + group / 10 % 10) as u8;
+    out[at + 2] = (48 + group % 10) as u8;
+    at + 3
+}
+
+// Stores a number below 1,000 in decimal.
+fn store_leading(out: &mut [u8], at: usize, n: u64) -> usize
+    requires { ⌜ (n < 1_000) × (at + length (decimal n) ≤ length (now out)) ⌝ }
+    ensures { λ r. ⌜ Stored (now (out .entry)) at (decimal n) r (now (out .exit)) ⌝ }
+{
+    if 100 <= n {
+        return store_group(out, at, n);
+    }
+    if n < 10 {
+        out[at] = (48 + n) as u8;
+        return at + 1;
+    }
+    out[at] = (48 + n / 10) as u8;
+    out[at + 1] = (48 + n % 10) as u8;
+    at + 2
+}
+
+// Stores a number below 1,000,000 in decimal.
+fn store_short(out: &mut [u8], at: usize, n: u64) -> usize
+    requires { ⌜ (n < 1_000_000) × (at + length (decimal n) ≤ length (now out)) ⌝ }
+    ensures { λ r. ⌜ Stored (now (out .entry)) at (decimal n) r (now (out .exit)) ⌝ }
+{
+    if n < 1_000 {
+        return store_leading(out, at, n);
+    }
+    let end = store_leading(out, at, n / 1_000);
+    store_group(out, end, n)
+}
+
+// Stores n in decimal: its millions, and the last six digits.
 fn store_number(out: &mut [u8], at: usize, n: u64) -> usize
     requires { ⌜ at + length (decimal n) ≤ length (now out) ⌝ }
     ensures { λ r. ⌜ Stored (now (out .entry)) at (decimal n) r (now (out .exit)) ⌝ }
 {
-    let end = at + digits(n);
-    let mut last = end - 1;
-    let mut rest = n;
-    while 10 <= rest {
-        out[last] = (48 + rest % 10) as u8;
-        last -= 1;
-        rest = rest / 10;
+    if n < 1_000_000 {
+        return store_short(out, at, n);
     }
-    out[last] = (48 + rest) as u8;
-    end
+    let thousands = n / 1_000;
+    let millions = store_number(out, at, thousands / 1_000);
+    let end = store_group(out, millions, thousands);
+    store_group(out, end, n)
 }
 
 // Stores the bytes of a text.
@@ -82,10 +123,13 @@ fn store_spaced(out: &mut [u8], at: usize, numbers: &[u64]) -> usize
     end
 }
 
-// Whether numbers, each after one space, have room in `room` bytes.
+// Whether numbers, each after one space, have room in `room` bytes. They are counted only where the longest would have none.
 fn spaced_fits(numbers: &[u64], room: usize) -> bool
     ensures { λ r. ⌜ r ≡ leb (length (spaced (now (numbers .entry)))) room ⌝ }
 {
+    if numbers.len() <= room / MOST {
+        return true;
+    }
     let mut left = room;
     let mut i: usize = 0;
     while i < numbers.len() {

@@ -1,7 +1,7 @@
 //! The functions of libfullerecru.a, as include/fullerecru.h says.
 
 /// Numbers of a planner's memory.
-pub const NUMBERS: usize = 780;
+pub const NUMBERS: usize = 781;
 /// Numbers of a trace's row, and of the list for its plan.
 pub const ROW: usize = 15;
 pub const PLAN: usize = 65;

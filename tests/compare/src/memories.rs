@@ -7,7 +7,7 @@ use reference::trace::Call;
 
 use crate::library::NUMBERS;
 use crate::proved::Planner;
-use crate::ring::{ACCEL, CAP, COMMITTED, COUNT, FIRST, HEAD, LENGTH, LIMIT, PLACE, REACH};
+use crate::ring::{ACCEL, BRAKE, CAP, COMMITTED, COUNT, FIRST, HEAD, LENGTH, PLACE, REACH, TORQUE};
 use crate::words::any_word;
 
 /// Powers of 2 at which a number of the memory is cut or compared, and their
@@ -36,18 +36,19 @@ pub fn left_by_calls(rng: &mut Rng) -> [u64; NUMBERS] {
             Call::Take => planner.take().map(drop),
         };
     }
-    planner.memory().try_into().expect("780 numbers")
+    planner.memory().try_into().expect("781 numbers")
 }
 
-/// The memory of a planner with some of its numbers changed: in the head, in
-/// the first place, in any.
+/// The memory of a planner with some of its numbers changed: in the head, the
+/// torque, in the first place, in any.
 fn changed(rng: &mut Rng) -> [u64; NUMBERS] {
     let mut memory = left_by_calls(rng);
     let first = HEAD + PLACE * (memory[FIRST] as usize);
     for _ in 0..rng.within(1, 3) {
-        let index = match rng.below(3) {
+        let index = match rng.below(4) {
             0 => rng.below(HEAD as u64) as usize,
-            1 => first + rng.below(PLACE as u64) as usize,
+            1 => TORQUE,
+            2 => first + rng.below(PLACE as u64) as usize,
             _ => rng.below(NUMBERS as u64) as usize,
         };
         memory[index] = word(rng);
@@ -101,20 +102,20 @@ fn to_the_ends_of_a_ramp(rng: &mut Rng, memory: &mut [u64; NUMBERS]) {
     let cap = [0, 1, 1_000_000, 1 << 40, (1 << 50) - 1, 1 << 50];
     let reach = [0, 1, 999, 1 << 47, (1 << 62) - 1, 1 << 62];
     let (cap, reach) = (rng.pick(&cap), rng.pick(&reach));
-    let limit = rng.pick(&[cap, cap / 2, cap + 1, 0]);
+    let brake = rng.pick(&[cap, cap / 2, cap + 1, 0]);
     let entry = [
         cap,
         cap + 1,
         cap / 3,
-        limit,
-        limit + reach,
-        limit + reach + 1,
+        brake,
+        brake + reach,
+        brake + reach + 1,
     ];
     memory[first + LENGTH] = word(rng);
     memory[first + ACCEL] = rng.pick(&accel);
     memory[first + REACH] = reach;
     memory[first + CAP] = cap;
-    memory[first + LIMIT] = limit;
+    memory[first + BRAKE] = brake;
     memory[COMMITTED] = rng.pick(&entry);
     memory[COUNT] = memory[COUNT].max(1);
 }

@@ -1,5 +1,5 @@
 //! A planner's memory by the promise of its calls: what each answers and leaves
-//! in the 780 numbers, whatever these are.
+//! in the 781 numbers, whatever these are.
 //!
 //! It follows the definitions that the promise cites, and not the code in
 //! crates/*/src, though it is no independent implementation (docs/DECISIONS.md):
@@ -18,29 +18,34 @@ use reference::refusal::Refusal;
 
 use crate::library::NUMBERS;
 use crate::words::{limit_words, limits_of};
-use numbers::{corner_under, numbers_of, ramp_between, Numbers};
+use numbers::{corner_under, numbers_of, ramp_between, Machine, Numbers};
 
 /// Numbers of the head and of each place; places, and blocks held at most.
-pub const HEAD: usize = 12;
+pub const HEAD: usize = 13;
 pub const PLACE: usize = 12;
 pub const MOST_HELD: u64 = 64;
 
-/// Where the head has the first block's place, the number of blocks held and
-/// the committed squared speed.
+/// Where the head has the first block's place, the number of blocks held, the
+/// committed squared speed and the torque; the nine limits come first.
 pub const FIRST: usize = 9;
 pub const COUNT: usize = 10;
 pub const COMMITTED: usize = 11;
+pub const TORQUE: usize = 12;
+
+/// The torque of a fresh planner: 100, 100, 90, 80, 70, 60, 50 and 40 percent, a
+/// byte for each, the first most significant.
+pub const BUILT_IN_TORQUE: u64 = u64::from_be_bytes([100, 100, 90, 80, 70, 60, 50, 40]);
 
 /// Where a place has its numbers; the moves X, Y, Z come first.
 const FEED: usize = 3;
 const RADIUS: usize = 4;
-const MARK: usize = 5;
+const LABEL: usize = 5;
 pub const LENGTH: usize = 6;
 pub const ACCEL: usize = 7;
 pub const REACH: usize = 8;
 pub const CAP: usize = 9;
 const JUNCTION: usize = 10;
-pub const LIMIT: usize = 11;
+pub const BRAKE: usize = 11;
 
 /// Bits in which a move is kept.
 const MOVE_BITS: u32 = 21;
@@ -66,7 +71,8 @@ impl Ring {
     pub fn freshen(&mut self, limits: &Limits) -> Result<(), Refusal> {
         check_limits(limits)?;
         self.memory[..FIRST].copy_from_slice(&limit_words(limits));
-        self.memory[FIRST..HEAD].fill(0);
+        self.memory[FIRST..TORQUE].fill(0);
+        self.memory[TORQUE] = BUILT_IN_TORQUE;
         Ok(())
     }
 
@@ -120,11 +126,15 @@ impl Ring {
         self.memory[HEAD + PLACE * self.slot(k) + number]
     }
 
-    /// The limits as they are used: what is left of each by 2^32.
-    fn cut_limits(&self) -> Limits {
+    /// The machine as it is used: what is left of each limit by 2^32, and the
+    /// torque as it is.
+    fn cut_machine(&self) -> Machine {
         let words = &self.memory[..FIRST];
         let cut: Vec<u64> = words.iter().map(|word| word % (1 << 32)).collect();
-        limits_of(&cut)
+        Machine {
+            limits: limits_of(&cut),
+            torque: self.memory[TORQUE],
+        }
     }
 
     /// Block k, its moves from their 21 bits.
@@ -133,7 +143,7 @@ impl Ring {
             moves: [0, 1, 2].map(|axis| signed_of(self.at(k, axis))),
             feed: self.at(k, FEED),
             radius: self.at(k, RADIUS),
-            mark: self.at(k, MARK),
+            mark: self.at(k, LABEL),
         }
     }
 
@@ -150,12 +160,12 @@ impl Ring {
     /// Greatest squared speed where block k begins from which it and the blocks
     /// after it can brake.
     fn brake_at(&self, k: u64) -> u64 {
-        least_sum(self.at(k, REACH), self.at(k, LIMIT), self.at(k, JUNCTION))
+        least_sum(self.at(k, REACH), self.at(k, BRAKE), self.at(k, JUNCTION))
     }
 
     /// Squared speed at the end of block k, from its entry.
     fn exit_at(&self, k: u64, entry: u64) -> u64 {
-        least_sum(entry, self.at(k, REACH), self.at(k, LIMIT))
+        least_sum(entry, self.at(k, REACH), self.at(k, BRAKE))
     }
 
     /// Cap of the junction between the last block held and a new one; 0 where
@@ -167,14 +177,14 @@ impl Ring {
         let last = self.memory[COUNT] - 1;
         let product = (self.at(last, LENGTH) % (1 << 30)) as u128 * numbers.length as u128;
         let cap = self.at(last, CAP).min(numbers.cap);
-        let jump = self.cut_limits().jump;
+        let jump = self.cut_machine().limits.jump;
         corner_under(cap, jump, product, &self.block_in(last), block)
     }
 
     /// Puts a block that passes behind those held, of which there are less than
     /// 64.
     fn put_last(&mut self, block: &Block) {
-        let numbers = numbers_of(&self.cut_limits(), block);
+        let numbers = numbers_of(&self.cut_machine(), block);
         let junction = self.new_junction(block, &numbers);
         let [x, y, z] = block.moves.map(bits_of);
         let Block {
@@ -195,16 +205,16 @@ impl Ring {
         self.walk_back(count);
     }
 
-    /// The walk back from block k: each block before it gets its limit anew,
+    /// The walk back from block k: each block before it gets its brake anew,
     /// until one has it already.
     fn walk_back(&mut self, k: u64) {
         for k in (0..k).rev() {
             let brake = self.brake_at(k + 1);
-            if self.at(k, LIMIT) == brake {
+            if self.at(k, BRAKE) == brake {
                 return;
             }
             let place = self.slot(k);
-            self.memory[HEAD + PLACE * place + LIMIT] = brake;
+            self.memory[HEAD + PLACE * place + BRAKE] = brake;
         }
     }
 

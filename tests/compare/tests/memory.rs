@@ -7,7 +7,7 @@ use std::collections::BTreeMap;
 use compare::library::NUMBERS;
 use compare::memories::{any_memory, left_by_calls};
 use compare::proved::Planner;
-use compare::ring::Ring;
+use compare::ring::{Ring, BUILT_IN_TORQUE, FIRST, HEAD, TORQUE};
 use compare::words::{any_block, any_limits};
 use compare::{report, same, seeds, Trying};
 use reference::generate::*;
@@ -206,7 +206,7 @@ fn a_planners_memory_is_left_as_promised() {
     report(count, "calls of planners, with all their memory");
 }
 
-/// A fresh planner on used memory: the 12 numbers of the head are new, and the
+/// A fresh planner on used memory: the numbers of the head are new, and the
 /// places keep what they held.
 #[test]
 fn a_fresh_planner_leaves_the_places_as_they_were() {
@@ -217,8 +217,9 @@ fn a_fresh_planner_leaves_the_places_as_they_were() {
         let mut both = Both::on(seed, &before);
         both.run(&Writes::Fresh(limits(&mut rng)), 1);
         let after = both.planner.memory();
-        assert_eq!(after[12..], before[12..], "seed {seed}");
-        assert_eq!(after[9..12], [0; 3], "seed {seed}");
+        assert_eq!(after[HEAD..], before[HEAD..], "seed {seed}");
+        assert_eq!(after[FIRST..TORQUE], [0; 3], "seed {seed}");
+        assert_eq!(after[TORQUE], BUILT_IN_TORQUE, "seed {seed}");
     }
     report(2_000, "fresh planners on used memory");
 }

@@ -177,7 +177,7 @@ fn adds_of_any_words_are_answered_alike() {
 }
 
 /// Two planners run in turn, one of them moved to other memory each time: a
-/// planner is its 780 numbers and nothing else.
+/// planner is its 781 numbers and nothing else.
 #[test]
 fn planners_do_not_disturb_one_another() {
     let mut count = 0;
@@ -195,7 +195,7 @@ fn planners_do_not_disturb_one_another() {
                 same(seed, || hex(&pack_call(call)), found, expected);
                 count += 1;
             }
-            let memory: [u64; NUMBERS] = planners[1].memory().try_into().expect("780 numbers");
+            let memory: [u64; NUMBERS] = planners[1].memory().try_into().expect("781 numbers");
             planners[1] = Planner::of_memory(&memory);
         }
     }

@@ -96,7 +96,7 @@ fn the_memory_holds_the_numbers_of_edge_speeds() {
             let (way, cause) = (rng.pick(&WAYS), rng.pick(&CAUSES));
             let (limits, block) = block_of_speed(&mut rng, speed, way, cause);
             let mut planner = Planner::fresh(&limits).expect("limits that pass");
-            let mut ring = Ring::of_memory(planner.memory().try_into().expect("780 numbers"));
+            let mut ring = Ring::of_memory(planner.memory().try_into().expect("781 numbers"));
             let input = || format!("{limits:?} {block:?}");
             same(seed, input, planner.add(&block), ring.add(&block));
             same(seed, input, planner.memory(), &ring.memory()[..]);

@@ -4,7 +4,7 @@ use borrow.Author.Needs.{needs}
 use Rattle.line.specs.Answers.{takeMeans}
 use Rattle.line.specs.Blocks.{take, lineAnswer, lineAfter}
 use Rattle.client.specs.Work.{lineOfTwo}
-use Rattle.client.proofs.Lines.{east, north, held-two, gives-first, gives-second, first-given, second-given}
+use Rattle.client.proofs.Worked.{east, north, held-two, gives-first, gives-second, first-given, second-given}
 use Rattle.client.proofs.right_angle.Statement.{statement}
 use Rattle.client.proofs.right_angle.Tie as tie
 
@@ -17,7 +17,7 @@ said c =
     let two = t .before .before in
     let one = two .before .before .before in
     let made = one .before .before .before in
-    let held = held-two east north (made .before .machine-m .ensures) (one .before .block .ensures) (two .before .block2 .ensures) (made .fresh .ensures) (one .add .ensures) (two .add2 .ensures) in
+    let held = held-two east north (made .before .limits-m .ensures) (one .before .block .ensures) (two .before .block2 .ensures) (made .fresh .ensures) (one .add .ensures) (two .add2 .ensures) in
     let first = t .take .ensures .line (lineOfTwo east north) held in
     (first .0, c .take2 .ensures .line (lineAfter (lineOfTwo east north) take) (first .1) .0)
 

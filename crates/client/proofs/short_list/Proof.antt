@@ -6,7 +6,7 @@ use borrow.Author.Needs.{needs}
 use borrow.Author.Tests.{eq-eqb}
 use lib.ListN.{getD}
 use Rattle.line.specs.Answers.{refused, showMeans}
-use Rattle.client.proofs.Lines.{ahead, still, held-one, short-shown, shown-refused, short-number}
+use Rattle.client.proofs.Worked.{ahead, still, held-one, short-shown, shown-refused, short-number}
 use Rattle.client.proofs.short_list.Statement.{statement}
 use Rattle.client.proofs.short_list.Tie as tie
 
@@ -21,7 +21,7 @@ module _ (c : tie.After-shown) where
   -- what it answers and leaves
   short : (showMeans (c .shown .result) ≡ refused 11) × (c .shown .last .1 .0 ≡ 7 ∷ [])
   short =
-      short-shown (held-one ahead still (made .before .machine-m .ensures) (one .before .block .ensures) (made .fresh .ensures) (one .add .ensures))
+      short-shown (held-one ahead still (made .before .limits-m .ensures) (one .before .block .ensures) (made .fresh .ensures) (one .add .ensures))
       (c .shown .ensures)
 
 expect-requires : tie.Need-expect-requires

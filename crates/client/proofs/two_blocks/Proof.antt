@@ -4,12 +4,11 @@ use mathlib.Core.Path.{_≡_, refl, ap, _∙_}
 use Prim.Native.Nat.{ℕ}
 use borrow.Author.Needs.{needs}
 use borrow.Author.Tests.{eq-eqb}
-use lib.IntN.{pos}
 use lib.ListN.{getD}
 use Rattle.machine.specs.Checks.{greatestMove, blockRefusal}
 use Rattle.line.specs.Blocks.{lineAfter}
-use Rattle.client.specs.Work.{blockOf, lineOfTwo}
-use Rattle.client.proofs.Lines.{held-two, straight-plan}
+use Rattle.client.specs.Work.{lineOfTwo}
+use Rattle.client.proofs.Worked.{ahead, held-two, worked}
 use Rattle.client.proofs.two_blocks.Statement.{statement}
 use Rattle.client.proofs.two_blocks.Tie as tie
 
@@ -20,11 +19,10 @@ listed c =
     let two = c .before .before .before in
     let one = two .before .before .before in
     let made = one .before .before .before in
-    let straight = blockOf (pos 1_000) (pos 0) 0 in
-    c .shown .ensures .line (lineOfTwo straight straight)
-    (held-two straight straight (made .before .machine-m .ensures) (one .before .block .ensures) (two .before .block2 .ensures) (made .fresh .ensures) (one .add .ensures) (two .add2 .ensures))
+    c .shown .ensures .line (lineOfTwo ahead ahead)
+    (held-two ahead ahead (made .before .limits-m .ensures) (one .before .block .ensures) (two .before .block2 .ensures) (made .fresh .ensures) (one .add .ensures) (two .add2 .ensures))
     .fits refl .1
-    ∙ straight-plan
+    ∙ worked .straight
 
 expect-requires : tie.Need-expect-requires
 expect-requires c κs = eq-eqb _ _ (ap (λ (l : List ℕ). getD l 0 0) (listed (c .before)))

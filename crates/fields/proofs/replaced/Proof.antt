@@ -25,18 +25,6 @@ module _ (c : tie.After-pow22) where
       with-fits n (c .before .before .args .low) (c .before .before .args .width) (c .before .before .args .v) (c .before .pow2 .ensures .is)
       (c .pow22 .ensures .is) (c .before .before .pre .1 .1) (c .before .before .fits .n .fits)
 
-mul-result : tie.Need-mul-result
-mul-result c = record { fits = omega (arith, fits c) }
-
-add-result : tie.Need-add-result
-add-result c = record { fits = omega (arith, fits c) }
-
-mul-result-2 : tie.Need-mul-result-2
-mul-result-2 c = record { fits = omega (arith, fits c) }
-
-add-result-2 : tie.Need-add-result-2
-add-result-2 c = record { fits = omega (arith, fits c) }
-
 returns : tie.Need-returns
 returns c = sym (with-def _ _ _ _ (c .before .pow2 .ensures .is) (c .pow22 .ensures .is))
 
@@ -48,10 +36,10 @@ replaced-spec =
     (λ c κs. search needs)
     (λ c. search needs)
     (λ c. search needs)
-    mul-result
+    (λ c. record { fits = omega (arith, fits c) })
     (λ c. search needs)
-    add-result
-    mul-result-2
+    (λ c. record { fits = omega (arith, fits c) })
+    (λ c. record { fits = omega (arith, fits c) })
     (λ c. search needs)
-    add-result-2
+    (λ c. record { fits = omega (arith, fits c) })
     returns)

@@ -11,11 +11,11 @@ use Rattle.listing.proofs.put_lines.Statement.{statement}
 use Rattle.listing.proofs.put_lines.Tie as tie
 
 abbrev Inv-loop : tie.InvT-loop
-Inv-loop s l plan first text₀ at to end₀ k₀ text end k =
-    (first ≤ k) × (k ≤ first + partBlocks) × (length text ≡ length text₀) × Storing l s plan first text₀ at text end k
+Inv-loop blocks sheet plan first text₀ at to end₀ k₀ text end k =
+    (first ≤ k) × (k ≤ first + partBlocks) × (length text ≡ length text₀) × Storing blocks sheet plan first text₀ at text end k
 
 abbrev μ-loop : tie.MeasureT-loop
-μ-loop s l plan first text₀ at to end₀ k₀ text end k = to - k
+μ-loop blocks sheet plan first text₀ at to end₀ k₀ text end k = to - k
 
 loop-holds : tie.Need-loop-holds Inv-loop μ-loop
 loop-holds c = (search needs, search needs, refl, record { leads = refl; left = refl; room = omega arith })
@@ -23,7 +23,7 @@ loop-holds c = (search needs, search needs, refl, record { leads = refl; left = 
 -- what is known in a turn
 module _ (turn : tie.In-loop Inv-loop μ-loop) where
   abbrev start : tie.Start Inv-loop μ-loop
-  start = turn .before .before .before .before .before .before .before
+  start = turn .before .before .before .before .before .before
 
   abbrev loop : tie.At-loop Inv-loop μ-loop
   loop = turn .before
@@ -34,26 +34,27 @@ module _ (turn : tie.In-loop Inv-loop μ-loop) where
   room : loop .loop .end + mostGiven ≤ length (loop .loop .text)
   room = omega (arith, loop .loop .inv .0, here, loop .loop .inv .2, loop .loop .inv .3 .room, start .pre .3, start .pre .4)
 
-put-record-requires : tie.Need-put-record-requires Inv-loop μ-loop
-put-record-requires c κs = let turn = c .before .before .before .before in (start turn .pre .0, room turn)
+put-block-requires : tie.Need-put-block-requires Inv-loop μ-loop
+put-block-requires c κs =
+    let turn = c .before in
+    let pre = start turn .pre in
+    (omega (arith, here turn, pre .0, pre .2), omega (arith, here turn, pre .1, pre .2), room turn)
 
 loop-again : tie.Need-loop-again Inv-loop μ-loop
 loop-again c =
     let stored = c .before .before in
-    let turn = stored .before .before .before .before .before in
+    let turn = stored .before .before in
     let inv = loop turn .loop .inv in
     let args = start turn .args in (
       omega (arith, inv .0),
       omega (arith, here turn),
       search needs,
-      storing-next (args .l) (args .s .now) (args .plan .now) (loop turn .loop .k) (inv .3) (inv .0) (here turn) (omega (arith, room turn))
-          (stored .put-record .ensures),
+      storing-next (args .blocks) (args .sheet .now) (args .plan .now) (loop turn .loop .k) (inv .3) (inv .0) (here turn)
+          (omega (arith, turn .loop-test .taken, loop turn .before .fewer .ensures)) (omega (arith, room turn)) (stored .put-block .ensures),
     )
 
 returns : tie.Need-returns Inv-loop μ-loop
-returns c =
-    let fewer = c .before .before in
-    storing-all _ _ _ (c .before .loop .inv .3) (omega (arith, c .loop-test .left, fewer .fewer .ensures, fewer .before .records-in .ensures))
+returns c = storing-all _ _ _ (c .before .loop .inv .3) (omega (arith, c .loop-test .left, c .before .before .fewer .ensures))
 
 pub put-lines-spec : {M : Type 1} → statement M
 put-lines-spec =
@@ -63,19 +64,8 @@ put-lines-spec =
     μ-loop
     (λ c. search needs)
     (λ c κs. search needs)
-    (λ c κs. search needs)
     loop-holds
-    (λ c. search needs)
-    (λ c. search needs)
-    (λ c. search needs)
-    (λ c. search needs)
-    (λ c. search needs)
-    (λ c. search needs)
-    (λ c. search needs)
-    (λ c. search needs)
-    (λ c. search needs)
-    (λ c. search needs)
-    put-record-requires
+    put-block-requires
     (λ c. search needs)
     (λ c. search needs)
     loop-again

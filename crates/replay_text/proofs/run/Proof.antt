@@ -22,10 +22,24 @@ loop-holds c = let s = c .before .before .before .args in (search needs, (c .cal
 
 loop-again : tie.Need-loop-again Inv-loop μ-loop
 loop-again c =
-    let s = c .before .before in
-    let l = s .before .before .before .before .before in
-    let few : s .run-call .result ≤ lineBytes * (l .loop .k + 1) = omega (arith, s .run-call .ensures .few) in
-    (search needs, (l .loop .inv .1 .0, (search needs, (few, ran-more (l .before .before .before .before .args .bytes .now) (l .loop .k) (omega arith) (l .loop .inv .1 .1 .1 .1) (s .run-call .ensures)))))
+    let w = c .before .before in
+    let call = w .before .before in
+    let read = call .before in
+    let l = read .before .before .before in
+    let few : w .write-answer .result ≤ lineBytes * (l .loop .k + 1) = omega (arith, w .write-answer .ensures .few) in (
+      search needs,
+      (
+        l .loop .inv .1 .0,
+        (
+          search needs,
+          (
+            few,
+            ran-more (l .before .before .before .before .args .bytes .now) (l .loop .k) (omega arith) (l .loop .inv .1 .1 .1 .1) (read .read-call .ensures) (call .call .ensures)
+                (w .write-answer .ensures),
+          ),
+        ),
+      ),
+    )
 
 returns : tie.Need-returns Inv-loop μ-loop
 returns c =
@@ -42,11 +56,8 @@ run-spec =
     μ-loop
     (λ c κs. search needs)
     loop-holds
-    (λ c. search needs)
-    (λ c. search needs)
-    (λ c. search needs)
-    (λ c. search needs)
-    (λ c. search needs)
+    (λ c κs. search needs)
+    (λ c κs. search needs)
     (λ c κs. search needs)
     (λ c. search needs)
     (λ c. search needs)

@@ -12,7 +12,9 @@ slice-aggregate-put-line : tie.Need-slice-aggregate-put-line
 slice-aggregate-put-line c = length-front (c .before .before .before .store-refused .ensures)
 
 returns : tie.Need-returns
-returns c = rw (← take-front (c .before .before .before .before .before .before .before .store-refused .ensures)) (c .before .before .put-line .ensures)
+returns c =
+    let line = c .before .before in
+    rw (← take-front (line .before .before .before .before .before .store-refused .ensures)) (line .put-line .ensures)
 
 pub put-refused-at-spec : {M : Type 1} → statement M
 put-refused-at-spec =

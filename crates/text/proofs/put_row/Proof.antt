@@ -25,11 +25,10 @@ slice-aggregate-put-line c = length-front (c .before .before .before .store-numb
 
 returns-2 : tie.Need-returns-2
 returns-2 c =
-    let s = c .before .before .before .before .before .before .before .before .before .before .before .before .before in
-    rw (
-      row-some (s .args .numbers .now) (omega arith),
-      ← take-front (c .before .before .before .before .before .before .before .store-number .ensures),
-    ) (c .before .before .put-line .ensures)
+    let line = c .before .before in
+    let first = line .before .before .before .before .before in
+    rw (row-some (first .before .before .before .before .before .before .args .numbers .now) (omega arith), ← take-front (first .store-number .ensures))
+    (line .put-line .ensures)
 
 pub put-row-spec : {M : Type 1} → statement M
 put-row-spec =

@@ -1,4 +1,4 @@
-//! A block's numbers, its corner and its ramp for limits and memory of any
+//! A block's numbers, its corner and its ramp for a machine and memory of any
 //! numbers, after crates/machine/specs/Numbers.antt alone.
 //!
 //! `reference::machine` has the scope document's rules, for limits within their
@@ -15,8 +15,12 @@ pub struct Numbers {
     pub cap: u64,
 }
 
-/// Percent of the acceleration at each torque step.
-const TORQUE_STEPS: [u128; 8] = [100, 100, 90, 80, 70, 60, 50, 40];
+/// Limits, and the torque: a percentage in a byte for each of eight speed steps,
+/// the first step's most significant.
+pub struct Machine {
+    pub limits: Limits,
+    pub torque: u64,
+}
 
 /// What no acceleration passes: twice the greatest limit, µm/s².
 const MOST_ACCEL: u128 = 2 * 20_000_000;
@@ -35,13 +39,19 @@ fn each_axis(cap: u128, limits: &[u64; 3], length: u128, sizes: &[u128; 3]) -> u
     })
 }
 
+/// Percent of the acceleration that a torque says for a speed.
+fn torque_percent(torque: u64, speed: u128) -> u128 {
+    let step = speed.saturating_sub(1) / 125_000;
+    (torque as u128 >> (8 * 7u128.saturating_sub(step))) % 256
+}
+
 /// A block's numbers.
-pub fn numbers_of(limits: &Limits, block: &Block) -> Numbers {
+pub fn numbers_of(machine: &Machine, block: &Block) -> Numbers {
+    let Machine { limits, torque } = machine;
     let sizes = block.moves.map(|m| m.unsigned_abs() as u128);
     let length = sizes.iter().map(|s| s * s).sum::<u128>().isqrt();
     let speed = each_axis(block.feed as u128, &limits.speed, length, &sizes);
-    let step = speed.saturating_sub(1) / 125_000;
-    let percent = TORQUE_STEPS.get(step as usize).unwrap_or(&0);
+    let percent = torque_percent(*torque, speed);
     let most = each_axis(MOST_ACCEL, &limits.accel, length, &sizes);
     let accel = (most * percent / 100).max(1);
     Numbers {

@@ -31,36 +31,6 @@ module _ (c : tie.Start) where
       let lo-b : b₀ < 2 ^ 32 = omega arith in
       (half-product hi-a hi-b, half-product hi-a lo-b, half-product lo-a hi-b, half-product lo-a lo-b)
 
-mul-first : tie.Need-mul-first
-mul-first c = record { fits = omega (arith, small c) }
-
-mul-second : tie.Need-mul-second
-mul-second c = record { fits = omega (arith, small c) }
-
-add-second : tie.Need-add-second
-add-second c = record { fits = omega (arith, small c) }
-
-mul-third : tie.Need-mul-third
-mul-third c = record { fits = omega (arith, small c) }
-
-add-third : tie.Need-add-third
-add-third c = record { fits = omega (arith, small c) }
-
-mul-t8 : tie.Need-mul-t8
-mul-t8 c = record { fits = omega (arith, small c) }
-
-add-t10 : tie.Need-add-t10
-add-t10 c = record { fits = omega (arith, small c) }
-
-add-t12 : tie.Need-add-t12
-add-t12 c = record { fits = omega (arith, small c) }
-
-mul-t14 : tie.Need-mul-t14
-mul-t14 c = record { fits = omega (arith, small c) }
-
-add-t16 : tie.Need-add-t16
-add-t16 c = record { fits = omega (arith, small c) }
-
 returns : tie.Need-returns
 returns c = columns (a₁ c * b₁ c) (a₁ c * b₀ c) (a₀ c * b₁ c) (a₀ c * b₀ c) ∙ product-columns (c .args .a) (c .args .b)
 
@@ -68,14 +38,14 @@ pub product-spec : {M : Type 1} → statement M
 product-spec =
     tie.close
     (tie.spec
-    mul-first
-    mul-second
-    add-second
-    mul-third
-    add-third
-    mul-t8
-    add-t10
-    add-t12
-    mul-t14
-    add-t16
+    (λ c. record { fits = omega (arith, small c) })
+    (λ c. record { fits = omega (arith, small c) })
+    (λ c. record { fits = omega (arith, small c) })
+    (λ c. record { fits = omega (arith, small c) })
+    (λ c. record { fits = omega (arith, small c) })
+    (λ c. record { fits = omega (arith, small c) })
+    (λ c. record { fits = omega (arith, small c) })
+    (λ c. record { fits = omega (arith, small c) })
+    (λ c. record { fits = omega (arith, small c) })
+    (λ c. record { fits = omega (arith, small c) })
     returns)

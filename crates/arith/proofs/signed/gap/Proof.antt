@@ -3,10 +3,9 @@ use mathlib.Core.Path.{_≡_, ap, sym, _∙_}
 use Prim.Native.Nat.{ℕ, _+_, _-_}
 use borrow.Author.Needs.{needs}
 use native.Mathlib.Omega.{arith}
-use lib.IntN.{ℤ, pos, natAbs}
-use lib.Signed.{ltZ}
+use lib.IntN.{natAbs}
 use Rattle.arith.specs.Signed.{gapOf}
-use Rattle.arith.proofs.SignedLaws.{read-back, magnitude-below, not-negative, gap-negative, gap-positive}
+use Rattle.arith.proofs.SignedLaws.{read-back, sign-back, magnitude-below, not-negative, gap-negative, gap-positive}
 use Rattle.arith.proofs.signed.gap.Statement.{statement}
 use Rattle.arith.proofs.signed.gap.Tie as tie
 
@@ -22,7 +21,7 @@ returns : tie.Need-returns
 returns c =
     let s = c .before .before in
     ap (λ (n : ℕ). s .args .p + n) (size-is (c .before))
-    ∙ gap-negative (s .args .p) (s .args .s) (ap (λ (z : ℤ). ltZ z (pos 0)) (sym (read-back (s .fits .s))) ∙ c .if1 .taken)
+    ∙ gap-negative (s .args .p) (s .args .s) (sign-back (s .fits .s) (c .if1 .taken))
 
 -- where s is not below 0, the gap is a difference of whole numbers
 positive-gap : (c : tie.Else1) → c .before .before .args .p - c .before .magnitude .result ≡ gapOf (c .before .before .args .p) (c .before .before .args .s)
@@ -30,7 +29,7 @@ positive-gap c =
     let s = c .before .before in
     ap (λ (n : ℕ). s .args .p - n) (size-is (c .before))
     ∙ gap-positive (s .args .p) (natAbs (s .args .s))
-    ∙ ap (gapOf (s .args .p)) (sym (not-negative (s .args .s) (ap (λ (z : ℤ). ltZ z (pos 0)) (sym (read-back (s .fits .s))) ∙ c .if1 .left)))
+    ∙ ap (gapOf (s .args .p)) (sym (not-negative (s .args .s) (sign-back (s .fits .s) (c .if1 .left))))
 
 returns-2 : tie.Need-returns-2
 returns-2 c = positive-gap (c .before)

@@ -4,15 +4,14 @@ use Prim.Native.Nat.{ℕ, _+_, _^_, _<_}
 use native.Mathlib.Numerals.{add-one}
 use native.Mathlib.Omega.{arith}
 use lib.IntN.{ℤ, pos, negsuc, natAbs, _+ℤ_, _-ℤ_}
-use lib.Signed.{ltZ}
-use Rattle.arith.proofs.SignedLaws.{readBack, read-back, negative, not-negative, next-fits, opposite-fits, opposite-is, small, magnitude-below}
+use Rattle.arith.proofs.SignedLaws.{readBack, read-back, sign-back, negative, not-negative, next-fits, opposite-fits, opposite-is, small, magnitude-below}
 use Rattle.arith.proofs.signed.magnitude.Statement.{statement}
 use Rattle.arith.proofs.signed.magnitude.Tie as tie
 
 module _ (c : tie.Then1) where
   -- x is -(n + 1)
   seen : (n : ℕ) × (c .before .args .x ≡ negsuc n)
-  seen = negative (c .before .args .x) (ap (λ (z : ℤ). ltZ z (pos 0)) (sym (read-back (c .before .fits .x))) ∙ c .if1 .taken)
+  seen = negative (c .before .args .x) (sign-back (c .before .fits .x) (c .if1 .taken))
 
   opposite : readBack (pos 0 -ℤ readBack (readBack (c .before .args .x) +ℤ pos 1)) ≡ pos (seen .0)
   opposite = opposite-is _ _ (c .before .fits .x) (seen .1)
@@ -22,7 +21,7 @@ module _ (c : tie.Then1) where
 
 -- x is not below 0
 positive : (c : tie.Else1) → readBack (c .before .args .x) ≡ pos (natAbs (c .before .args .x))
-positive c = read-back (c .before .fits .x) ∙ not-negative (c .before .args .x) (ap (λ (z : ℤ). ltZ z (pos 0)) (sym (read-back (c .before .fits .x))) ∙ c .if1 .left)
+positive c = read-back (c .before .fits .x) ∙ not-negative (c .before .args .x) (sign-back (c .before .fits .x) (c .if1 .left))
 
 add-result : tie.Need-add-result
 add-result c = next-fits _ _ (c .before .fits .x) (seen c .1)

@@ -1,11 +1,6 @@
 -- `client::demands::for_c` meets its contract: the promises of the functions for C, and their theorem.
-use mathlib.Core.Path.{subst}
-use lib.IntN.{ℤ}
 use borrow.Author.Needs.{needs}
 use Rattle.arith.proofs.SignedLaws.{read-back}
-use Rattle.line.specs.Answers.{answerBy}
-use Rattle.line.specs.Blocks.{add}
-use Rattle.planner.specs.Calls.{Called}
 use Rattle.fullerecru.specs.Planners.{none, add-next, take-next}
 use Rattle.fullerecru.proofs.Demand.{exported-demand3}
 use Rattle.client.proofs.demands.for_c.Statement.{statement}
@@ -20,12 +15,9 @@ returns c = λ passed.
     let a = b .before .before in
     let f = a .before .before in
     let start = f .before .before .before in
-    let feed = start .args .feed in
     let same = read-back (start .fits .x) in
     exported-demand3 (f .fullerecru-fresh .ensures) passed
-    (add-next (subst (λ (x : ℤ). Called (f .fullerecru-fresh .last .0) (add record { x = x; y = x; z = x; feed = feed; radius = 0; mark = 0 }) (answerBy (a .fullerecru-add .result)) (a .fullerecru-add .last .0)) same (a .fullerecru-add .ensures))
-    (add-next (subst (λ (x : ℤ). Called (a .fullerecru-add .last .0) (add record { x = x; y = x; z = x; feed = feed; radius = 0; mark = 1 }) (answerBy (b .fullerecru-add2 .result)) (b .fullerecru-add2 .last .0)) same (b .fullerecru-add2 .ensures))
-    (take-next (k .fullerecru-take .ensures) none)))
+    (add-next (rw same at (a .fullerecru-add .ensures)) (add-next (rw same at (b .fullerecru-add2 .ensures)) (take-next (k .fullerecru-take .ensures) none)))
     (t .fullerecru-told .ensures) (s .fullerecru-shown .ensures)
 
 pub for-c-spec : {M : Type 1} → statement M

@@ -3,7 +3,7 @@ use mathlib.Core.List.{_∷_, []}
 use mathlib.Core.Path.{_∙_}
 use lib.Seq.{sets}
 use Rattle.arith.proofs.SignedLaws.{field-back}
-use Rattle.planner.proofs.View.{sets-all}
+use Rattle.machine.proofs.Runs.{sets-all}
 use Rattle.fullerecru.specs.Moves.{blockMoves}
 use borrow.Author.Needs.{needs}
 use Rattle.fullerecru.proofs.numbers.put_moves.Statement.{statement}

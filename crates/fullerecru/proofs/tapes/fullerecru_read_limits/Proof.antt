@@ -1,7 +1,10 @@
 -- `fullerecru::tapes::fullerecru_read_limits`: the answer of `read_limits` by its number.
+use mathlib.Core.List.{[]}
 use mathlib.Core.Path.{sym, ap, _∙_}
 use borrow.Author.Needs.{needs}
 use Rattle.display.specs.Display.{refused}
+use Rattle.machine.specs.Lists.{limitNumbers}
+use Rattle.machine.proofs.Runs.{sets-all}
 use Rattle.tape.specs.Answers.{limitsMeans}
 use Rattle.fullerecru.proofs.FromBytes.{limits-given, limits-refused}
 use Rattle.fullerecru.proofs.tapes.fullerecru_read_limits.Statement.{statement}
@@ -20,7 +23,8 @@ returns-2 c =
     let l = c .before .before .before in
     let r = l .before .before in
     let a = r .before .before .args in
-    limits-given (a .bytes .now) (a .limits .now) (ap limitsMeans (sym (l .l .given .1)) ∙ r .read-limits .ensures) (c .put-limits .ensures)
+    limits-given (a .bytes .now) (a .limits .now) (ap limitsMeans (sym (l .l .given .1)) ∙ r .read-limits .ensures)
+    (c .store-limits .ensures ∙ sets-all (limitNumbers (l .l .given .0 .0) []) (a .limits .now) (search needs))
 
 pub fullerecru-read-limits-spec : {M : Type 1} → statement M
 fullerecru-read-limits-spec =

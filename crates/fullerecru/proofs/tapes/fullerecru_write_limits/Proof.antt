@@ -1,8 +1,6 @@
 -- `fullerecru::tapes::fullerecru_write_limits`: the promise of `write_limits` at the limits that were read.
-use mathlib.Core.Path.{subst}
 use borrow.Author.Needs.{needs}
-use Rattle.machine.specs.declared.Limits.{Limits}
-use Rattle.tape.specs.Answers.{limitsWriteRefusal, limitsWritten, Wrote}
+use Rattle.tape.specs.Answers.{limitsWriteRefusal, limitsWritten}
 use Rattle.fullerecru.proofs.FromBytes.{written}
 use Rattle.fullerecru.proofs.tapes.fullerecru_write_limits.Statement.{statement}
 use Rattle.fullerecru.proofs.tapes.fullerecru_write_limits.Tie as tie
@@ -12,10 +10,7 @@ returns c =
     let w = c .before .before .before in
     let l = w .before .before in
     let bytes = l .before .before .before .args .bytes .now in
-    written (c .checked-number .result)
-    (subst (λ (x : Limits). Wrote (limitsWriteRefusal x bytes) (limitsWritten x bytes) (w .write-limits .result) (w .write-limits .last .1 .0)) (l .limits-of .ensures)
-    (w .write-limits .ensures))
-    (c .checked-number .ensures)
+    written (λ x. limitsWriteRefusal x bytes) (λ x. limitsWritten x bytes) (l .limits-from .ensures) (w .write-limits .ensures) (c .checked-number .ensures)
 
 pub fullerecru-write-limits-spec : {M : Type 1} → statement M
 fullerecru-write-limits-spec =

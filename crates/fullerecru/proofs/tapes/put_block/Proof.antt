@@ -1,6 +1,6 @@
 -- `fullerecru::tapes::put_block`: both lists are stored whole.
-use Rattle.planner.proofs.View.{sets-all}
-use Rattle.fullerecru.specs.Tapes.{blockNumbers}
+use Rattle.machine.proofs.Runs.{sets-all}
+use Rattle.fullerecru.specs.Moves.{blockNumbers}
 use borrow.Author.Needs.{needs}
 use Rattle.fullerecru.proofs.tapes.put_block.Statement.{statement}
 use Rattle.fullerecru.proofs.tapes.put_block.Tie as tie

@@ -11,7 +11,7 @@ returns c =
 
 returns-2 : tie.Need-returns-2
 returns-2 c =
-    let told = c .before .before .before .before .before in
+    let told = c .before .before .before .before .before .before in
     part-answered _ _ _ (told .enum-told .given .1) (c .put-part .ensures)
 
 pub part-spec : {M : Type 1} → statement M

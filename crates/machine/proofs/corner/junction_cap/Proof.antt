@@ -1,47 +1,43 @@
--- `machine::corner::junction_cap` meets its contract, from the numbers of both blocks and the corner between them.
-use mathlib.Core.Path.{_≡_, ap, _∙_}
-use Prim.Native.Nat.{ℕ, _*_, _^_, _<_, min}
+-- `machine::corner::junction_cap` meets its contract, from the numbers of both blocks.
+use mathlib.Core.Path.{_≡_, ap, sym, subst, _∙_}
 use borrow.Author.Needs.{needs}
-use native.Mathlib.Omega.{arith}
-use Rattle.machine.specs.Checks.{movesOf, blockRefusal}
-use Rattle.machine.specs.Numbers.{AxesBelow, numbersOf, turnFrom, cornerFrom, cornerCap, underCorner, junctionCap}
-use Rattle.machine.specs.declared.Limits.{Limits}
-use Rattle.machine.specs.declared.Block.{Block}
-use Rattle.machine.specs.declared.Numbers.{Numbers}
-use Rattle.machine.proofs.Bounds.{moves-below, length-below}
+use Rattle.machine.specs.Numbers.{LimitsBelow, builtIn, numbersOf, junctionFrom, Joinable}
+use Rattle.machine.specs.declared.Machine.{Machine}
+use Rattle.machine.proofs.Junctions.{junction-from-numbers, numbers-joinable}
 use Rattle.machine.proofs.corner.junction_cap.Statement.{statement}
 use Rattle.machine.proofs.corner.junction_cap.Tie as tie
 
--- a block that passes 2 to 6 has short moves, and a length of its numbers that is short too
-short-moves : (b : Block) → blockRefusal b ≡ 0 → AxesBelow (2 ^ 21) (movesOf b)
-short-moves b e = let h = moves-below b e in (omega arith, omega arith, omega arith)
+limited : (c : tie.After-built-in) → LimitsBelow (c .built-in .result .limits)
+limited c = subst (λ (m : Machine). LimitsBelow (m .limits)) (sym (c .built-in .ensures)) (c .before .pre .0)
 
-short-length : (l : Limits) (b : Block) (n : Numbers) → blockRefusal b ≡ 0 → n ≡ numbersOf l b → n .length < 2 ^ 30
-unfolding numbersOf
-short-length l b n e h = omega (arith, ap (λ (k : Numbers). k .length) h, length-below (movesOf b) (moves-below b e))
+numbers-requires : tie.Need-numbers-requires
+numbers-requires c κs = (limited c, c .before .pre .1)
 
-under-corner-requires : tie.Need-under-corner-requires
-under-corner-requires c κs =
+numbers-requires-2 : tie.Need-numbers-requires-2
+numbers-requires-2 c κs = (limited (c .before), c .before .before .pre .2)
+
+-- the numbers of both blocks
+first-is : (c : tie.After-numbers) → let a = c .before .before .args in c .numbers .result ≡ numbersOf (builtIn (a .l)) (a .a)
+first-is c = c .numbers .ensures ∙ ap (λ (m : Machine). numbersOf m (c .before .before .args .a)) (c .before .built-in .ensures)
+
+second-is : (c : tie.After-numbers2) → let a = c .before .before .before .args in c .numbers2 .result ≡ numbersOf (builtIn (a .l)) (a .b)
+second-is c = c .numbers2 .ensures ∙ ap (λ (m : Machine). numbersOf m (c .before .before .before .args .b)) (c .before .before .built-in .ensures)
+
+joinable : (c : tie.After-numbers2) → let a = c .before .before .before .args in Joinable (a .l .jump) (a .a) (c .before .numbers .result) (a .b) (c .numbers2 .result)
+joinable c =
     let s = c .before .before .before in
-    let a = s .args in (
-      s .pre .0 .2,
-      short-length (a .l) (a .a) _ (s .pre .1) (c .before .before .numbers .ensures),
-      short-length (a .l) (a .b) _ (s .pre .2) (c .before .numbers2 .ensures),
-      short-moves (a .a) (s .pre .1),
-      short-moves (a .b) (s .pre .2),
-    )
+    rw (first-is (c .before), second-is c) (numbers-joinable (builtIn (s .args .l)) (s .args .a) (s .args .b) (s .pre .0) (s .pre .1) (s .pre .2))
 
--- the junction cap from a cap and the numbers of both blocks
-abbrev joined : Limits → (a b : Block) → ℕ → (n m : Numbers) → ℕ
-joined l a b cap n m = underCorner (cornerFrom (l .jump) (n .length * m .length) (turnFrom (n .length * m .length) a b)) cap
+junction-from-requires : tie.Need-junction-from-requires
+junction-from-requires c κs = joinable c
 
 returns : tie.Need-returns
-unfolding junctionCap cornerCap numbersOf
 returns c =
-    let a = c .before .before .before .before .args in
-    let n = c .before .before .before .numbers .ensures in
-    let m = c .before .before .numbers2 .ensures in
-    c .under-corner .ensures ∙ (λ i. joined (a .l) (a .a) (a .b) ((c .before .smaller .ensures ∙ (λ j. min (n j .cap) (m j .cap))) i) (n i) (m i))
+    let n = c .before in
+    let a = n .before .before .before .args in
+    c .junction-from .ensures
+    ∙ (λ i. junctionFrom (a .l .jump) (a .a) (first-is (n .before) i) (a .b) (second-is n i))
+    ∙ junction-from-numbers (builtIn (a .l)) (a .a) (a .b)
 
 pub junction-cap-spec : {M : Type 1} → statement M
-junction-cap-spec = tie.close (tie.spec (λ c κs. search needs) (λ c κs. search needs) (λ c κs. search needs) under-corner-requires returns)
+junction-cap-spec = tie.close (tie.spec (λ c κs. search needs) numbers-requires numbers-requires-2 junction-from-requires returns)

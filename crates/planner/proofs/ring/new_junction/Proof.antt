@@ -1,7 +1,8 @@
--- `planner::ring::new_junction`: the corner between the last block and the new one, from `junction-is`.
+-- `planner::ring::new_junction`: the junction between the last block and the new one, from `junction-is`.
 use borrow.Author.Needs.{needs}
 use borrow.Author.Tests.{eq-eqb}
-use native.Mathlib.Omega.{arith}
+use native.Mathlib.Nat.{mod-lt}
+use lib.Dec.{lit<}
 use Rattle.planner.specs.View.{placeFrom, viewOf}
 use Rattle.planner.proofs.Passes.{junction-is, moves-in}
 use Rattle.planner.proofs.ring.new_junction.Statement.{statement}
@@ -11,23 +12,31 @@ returns : tie.Need-returns
 unfolding viewOf
 returns c = simp (eq-eqb _ _ (c .if1 .taken))
 
-under-corner-requires : tie.Need-under-corner-requires
-under-corner-requires c κs =
-    let d = c .before in
-    let s = d .before .before .before .before .before .before .before in
-    (s .before .pre .1, omega arith, s .before .pre .2, rw (d .block-in .ensures) (moves-in (placeFrom (s .before .args .memory .now) (d .before .before .before .place .result))), s .before .pre .3)
+junction-from-requires : tie.Need-junction-from-requires
+junction-from-requires c κs =
+    let b = c .before in
+    let p = b .before in
+    let s = p .before .before .before .before .before in
+    let held = placeFrom (s .args .memory .now) (p .place .result) in
+    record {
+      jump-below = s .pre .1;
+      first-length = rw (c .cut-numbers-in .ensures) (mod-lt (held .length) (lit< tt));
+      second-length = s .pre .2;
+      first-moves = rw (b .block-in .ensures) (moves-in held);
+      second-moves = s .pre .3;
+    }
 
 returns-2 : tie.Need-returns-2
-unfolding viewOf placeFrom
+unfolding viewOf
 returns-2 c =
-    let d = c .before .before in
-    let p = d .before .before .before in
+    let h = c .before in
+    let b = h .before in
+    let p = b .before in
     let e = p .before .before in
-    let s = e .before .before .before in
-    let a = s .args in
-    junction-is (a .memory .now) (p .place .result) (a .l) (a .b) (a .n) (p .place .ensures .0) (c .under-corner .result) (d .before .smaller .result) (d .block-in .result)
-    (e .if1 .left) (d .before .smaller .ensures) (d .block-in .ensures) (c .under-corner .ensures)
+    let a = e .before .before .before .args in
+    junction-is (a .memory .now) (p .place .result) (a .jump) (a .b) (a .n) (c .junction-from .result) (b .block-in .result) (h .cut-numbers-in .result)
+    (p .place .ensures .0) (e .if1 .left) (b .block-in .ensures) (h .cut-numbers-in .ensures) (c .junction-from .ensures)
 
 pub new-junction-spec : {M : Type 1} → statement M
 new-junction-spec =
-    tie.close (tie.spec (λ c. search needs) returns (λ c. search needs) (λ c. search needs) (λ c κs. search needs) (λ c. search needs) (λ c. search needs) (λ c. search needs) (λ c κs. search needs) (λ c κs. search needs) (λ c. search needs) (λ c. search needs) (λ c. search needs) under-corner-requires returns-2)
+    tie.close (tie.spec (λ c. search needs) returns (λ c. search needs) (λ c. search needs) (λ c κs. search needs) (λ c κs. search needs) (λ c κs. search needs) junction-from-requires returns-2)

@@ -1,52 +1,58 @@
 -- `planner::ring::put_last`: the place, the count and the walk back together, from `put-is`.
 use mathlib.Core.Path.{_≡_, _∙_}
-use Prim.Native.Nat.{_^_, _<_}
 use borrow.Author.Needs.{needs}
 use native.Mathlib.Omega.{arith}
 use lib.ListN.{length, length-set}
-use Rattle.machine.proofs.Bounds.{moves-below, length-below}
-use Rattle.machine.specs.Checks.{movesOf}
-use Rattle.machine.specs.Numbers.{AxesBelow, lengthFrom, numbersOf}
-use Rattle.machine.specs.declared.Block.{Block}
-use Rattle.line.specs.Ring.{placeOf}
+use Rattle.machine.proofs.Bounds.{short}
+use Rattle.machine.proofs.Junctions.{short-moves}
 use Rattle.machine.specs.Lists.{limitsFrom}
+use Rattle.machine.specs.Numbers.{numbersOf}
+use Rattle.line.specs.Ring.{placeOf}
 use Rattle.planner.specs.View.{memorySize, numbersFor, viewOf}
 use Rattle.planner.proofs.Passes.{limits-below, still-sized, put-is}
 use Rattle.planner.proofs.ring.put_last.Statement.{statement}
 use Rattle.planner.proofs.ring.put_last.Tie as tie
 
-short : (b : Block) → AxesBelow (2 ^ 20) (movesOf b) → lengthFrom (movesOf b) < 2 ^ 30
-short b h = omega (arith, length-below (movesOf b) h)
+-- the places behind each call, from the one where the block is stored
+module _ (c : tie.After-store-place) where
+  abbrev placed : tie.After-place
+  placed = c .before .before
 
-stored : (c : tie.After-store-place) → length (c .store-place .last .0) ≡ memorySize
-stored c =
-    let p = c .before .before in
-    let j = p .before .before .before in
-    let n = j .before .before in
-    let s = n .before .before .before .before in
-    still-sized (s .args .memory .now) (c .store-place .last .0) (p .place .result) (numbersFor (placeOf (s .args .b) (n .numbers .result) (j .new-junction .result)))
-    (s .pre .0) (c .store-place .ensures)
+  abbrev joined : tie.After-new-junction
+  joined = placed .before .before .before
+
+  abbrev numbered : tie.After-numbers
+  numbered = joined .before .before
+
+  abbrev machined : tie.After-machine-in
+  machined = numbered .before .before
+
+  abbrev start : tie.Start
+  start = machined .before .before .before
+
+  stored : length (c .store-place .last .0) ≡ memorySize
+  stored =
+      still-sized (start .args .memory .now) (c .store-place .last .0) (placed .place .result)
+      (numbersFor (placeOf (start .args .b) (numbered .numbers .result) (joined .new-junction .result))) (start .pre .0) (c .store-place .ensures)
 
 numbers-requires : tie.Need-numbers-requires
-unfolding viewOf
 numbers-requires c κs =
-    let s = c .before .before .before in
-    (rw (c .limits-in .ensures) (limits-below (limitsFrom (s .args .memory .now))), s .pre .1)
+    let m = c .before in
+    let s = m .before .before .before in
+    (rw (m .machine-in .ensures) (limits-below (limitsFrom (s .args .memory .now))), s .pre .1)
 
 new-junction-requires : tie.Need-new-junction-requires
-unfolding viewOf numbersOf
+unfolding numbersOf
 new-junction-requires c κs =
     let n = c .before in
-    let s = n .before .before .before .before in
+    let m = n .before .before in
+    let s = m .before .before .before in
     let b = s .args .b in
-    let moves = moves-below b (s .pre .1) in
-    (s .pre .0, rw (n .before .limits-in .ensures) (limits-below (limitsFrom (s .args .memory .now)) .2), rw (n .numbers .ensures) (short b moves), (omega arith, omega arith, omega arith))
+    (s .pre .0, rw (m .machine-in .ensures) (limits-below (limitsFrom (s .args .memory .now)) .2), rw (n .numbers .ensures) (omega (arith, short b (s .pre .1))), short-moves b (s .pre .1))
 
 add-memory : tie.Need-add-memory
 unfolding viewOf
-add-memory c =
-    let s = c .before .before .before .before .before .before .before .before .before .before .before .before .before in
-    record { fits = omega (arith, s .pre .2) }
+add-memory c = record { fits = omega (arith, start (c .before .before) .pre .2) }
 
 walk-back-requires : tie.Need-walk-back-requires
 walk-back-requires c κs = simp length-set (stored (c .before .before .before))
@@ -55,17 +61,14 @@ returns : tie.Need-returns
 unfolding viewOf
 returns c =
     let w = c .before .before in
-    let m = w .before .before .before .before in
-    let p = m .before .before in
-    let j = p .before .before .before in
-    let n = j .before .before in
-    let s = n .before .before .before .before in
+    let p = w .before .before .before .before in
+    let s = start p in
     record {
       sized = w .walk-back .ensures .sized;
       view =
           w .walk-back .ensures .view
-          ∙ put-is (s .args .memory .now) (m .store-place .last .0) (n .before .limits-in .result) (s .args .b) (n .numbers .result) (j .new-junction .result) (p .place .result)
-          (s .pre .0) (n .before .limits-in .ensures) (n .numbers .ensures) (j .new-junction .ensures) (p .place .ensures .0) (m .store-place .ensures);
+          ∙ put-is (s .args .memory .now) (p .store-place .last .0) (machined p .machine-in .result) (s .args .b) (numbered p .numbers .result) (joined p .new-junction .result) (placed p .place .result)
+          (s .pre .0) (machined p .machine-in .ensures) (numbered p .numbers .ensures) (joined p .new-junction .ensures) (placed p .place .ensures .0) (p .store-place .ensures);
     }
 
 pub put-last-spec : {M : Type 1} → statement M

@@ -1,4 +1,4 @@
--- `planner::ring::told_in` meets its contract: the number kept, at most 64.
+-- `planner::ring::told_in`: the number kept, but no more than there are places.
 use borrow.Author.Needs.{needs}
 use Rattle.planner.specs.View.{viewOf}
 use Rattle.planner.proofs.Outcomes.{told-is}

@@ -7,7 +7,7 @@ use lib.ListN.{length, length-set}
 use lib.Seq.{getD-set-same}
 use Rattle.line.specs.Blocks.{mostHeld}
 use Rattle.line.specs.Ring.{slot, walkBack}
-use Rattle.planner.specs.View.{memorySize, baseOf, placeFrom, viewOf}
+use Rattle.planner.specs.View.{memorySize, brakeOffset, baseOf, lastBase, placeFrom, viewOf}
 use Rattle.planner.proofs.Passes.{begins-before, walk-ends, walk-goes-on, walk-first}
 use Rattle.planner.proofs.ring.walk_back.Tie as tie
 use Rattle.planner.proofs.ring.walk_back.Statement.{statement}
@@ -15,7 +15,7 @@ use Rattle.planner.proofs.ring.walk_back.Statement.{statement}
 abbrev Inv-loop : tie.InvT-loop
 Inv-loop memory₀ count k₀ after₀ brake₀ memory k after brake =
     (length memory ≡ memorySize)
-    × (after ≤ 768)
+    × (after ≤ lastBase)
     × (after ≡ baseOf (slot (viewOf memory) k))
     × (k ≤ count)
     × (walkBack k (viewOf memory) ≡ walkBack count (viewOf memory₀))
@@ -32,7 +32,7 @@ module _ (c : tie.After-place-before Inv-loop μ-loop) where
   at-is : c .place-before .result ≡ baseOf (slot (viewOf (head .loop .memory)) (head .loop .k - 1))
   at-is = begins-before _ (head .loop .k) (head .loop .k - 1) _ _ (omega (arith, c .before .before .before .loop-test .taken)) (head .loop .inv .2) (c .place-before .ensures)
 
-  within : c .place-before .result ≤ 768
+  within : c .place-before .result ≤ lastBase
   within = omega (arith, at-is)
 
 loop-holds : tie.Need-loop-holds Inv-loop μ-loop
@@ -44,15 +44,6 @@ loop-holds c =
 brake-at-requires : tie.Need-brake-at-requires Inv-loop μ-loop
 brake-at-requires c κs = let inv = c .before .before .loop .inv in (inv .0, inv .1, inv .5)
 
-add-if1 : tie.Need-add-if1 Inv-loop μ-loop
-add-if1 c = record { fits = omega (arith, within c) }
-
-mul-if1 : tie.Need-mul-if1 Inv-loop μ-loop
-mul-if1 c = record { fits = omega (arith, within c) }
-
-slice-read-if1 : tie.Need-slice-read-if1 Inv-loop μ-loop
-slice-read-if1 c = omega (arith, within (c .before))
-
 returns : tie.Need-returns Inv-loop μ-loop
 returns c =
     let d = c .before .before in
@@ -62,15 +53,6 @@ returns c =
       sized = w .loop .inv .0;
       view = walk-ends _ n (n - 1) _ _ _ (omega arith) (w .loop .inv .2) (at-is d) (d .before .brake-at .ensures) (c .if1 .taken) ∙ w .loop .inv .4;
     }
-
-add-memory : tie.Need-add-memory Inv-loop μ-loop
-add-memory c = record { fits = omega (arith, within (c .before .before)) }
-
-mul-memory : tie.Need-mul-memory Inv-loop μ-loop
-mul-memory c = record { fits = omega (arith, within (c .before .before)) }
-
-slice-write-memory : tie.Need-slice-write-memory Inv-loop μ-loop
-slice-write-memory c = omega (arith, within (c .before .before))
 
 loop-again : tie.Need-loop-again Inv-loop μ-loop
 unfolding placeFrom
@@ -86,7 +68,7 @@ loop-again c =
       at-is d ∙ ap (λ (f : ℕ). baseOf ((f + (n - 1)) % mostHeld)) (sym first),
       omega arith,
       walk-goes-on _ n (n - 1) _ _ _ (omega arith) (inv .2) (at-is d) e (inv .0) (c .if1 .left) ∙ inv .4,
-      sym (getD-set-same (w .loop .memory) (d .place-before .result + 11) _ 0 (omega (arith, within d, inv .0))),
+      sym (getD-set-same (w .loop .memory) (d .place-before .result + brakeOffset) _ 0 (omega (arith, within d, inv .0))),
     )
 
 returns-2 : tie.Need-returns-2 Inv-loop μ-loop
@@ -97,4 +79,4 @@ returns-2 c =
 
 pub walk-back-spec : {M : Type 1} → statement M
 walk-back-spec =
-    tie.close (tie.spec Inv-loop μ-loop (λ c. search needs) (λ c κs. search needs) (λ c. search needs) (λ c. search needs) (λ c. search needs) loop-holds brake-at-requires (λ c. search needs) (λ c κs. search needs) add-if1 mul-if1 slice-read-if1 (λ c. search needs) returns add-memory mul-memory slice-write-memory (λ c. search needs) loop-again (λ c. search needs) returns-2)
+    tie.close (tie.spec Inv-loop μ-loop (λ c. search needs) (λ c κs. search needs) (λ c. search needs) (λ c. search needs) (λ c. search needs) loop-holds brake-at-requires (λ c. search needs) (λ c κs. search needs) (λ c. record { fits = omega (arith, within c) }) (λ c. record { fits = omega (arith, within c) }) (λ c. omega (arith, within (c .before))) (λ c. search needs) returns (λ c. record { fits = omega (arith, within (c .before .before)) }) (λ c. record { fits = omega (arith, within (c .before .before)) }) (λ c. omega (arith, within (c .before .before))) (λ c. search needs) loop-again (λ c. search needs) returns-2)

@@ -4,7 +4,7 @@ use Prim.Native.Nat.{ℕ}
 use Rattle.display.specs.Display.{Fault, _at_, given}
 use Rattle.tape.specs.Answers.{byFault, limitsMeans, headRefusal, checkRecords, checkTape}
 use Rattle.tape.proofs.Answers.{faulty}
-use Rattle.tape.proofs.Checks.{head-passed, head-given, head-refused}
+use Rattle.tape.proofs.Checks.{head-given, head-refused}
 use Rattle.tape.proofs.Faults.{fault-records, fault-head}
 use borrow.Author.Needs.{needs}
 use Rattle.tape.proofs.whole.check_tape.Statement.{statement}
@@ -13,9 +13,6 @@ use Rattle.tape.proofs.whole.check_tape.Tie as tie
 -- the head passes
 passed : (c : tie.After-enum-told) → headRefusal (c .before .before .before .before .args .s .now) ≡ 0
 passed c = head-given _ (sym (c .before .before .read-head .ensures) ∙ ap limitsMeans (c .enum-told .given .1)) .0
-
-check-records-requires : tie.Need-check-records-requires
-check-records-requires c κs = head-passed _ (passed c) .least
 
 returns : tie.Need-returns
 unfolding checkRecords checkTape
@@ -33,4 +30,4 @@ returns-2 c =
 pub check-tape-spec : {M : Type 1} → statement M
 check-tape-spec =
     tie.close
-    (tie.spec (λ c κs. search needs) (λ c. search needs) check-records-requires (λ c. search needs) returns returns-2)
+    (tie.spec (λ c κs. search needs) (λ c. search needs) (λ c κs. search needs) (λ c. search needs) returns returns-2)

@@ -1,0 +1,64 @@
+-- The sheet of a survey: what is measured of each block, as a row of numbers in a list.
+use mathlib.Core.Path.{_≡_}
+use mathlib.Core.List.{List, _++_}
+use Prim.Native.Nat.{ℕ, _+_, _*_, _/_, _<_}
+use lib.ListN.{length, drop}
+use Rattle.profile.specs.Line.{numberAt}
+use Rattle.machine.specs.Numbers.{numbersOf}
+use Rattle.machine.specs.declared.Block.{Block}
+use Rattle.machine.specs.declared.Machine.{Machine}
+use Rattle.machine.specs.declared.Numbers.{Numbers}
+use Rattle.tape.specs.Answers.{mostBlocks}
+use Rattle.tape.specs.Tape.{recordAt, recordsIn}
+use Rattle.tapeplan.specs.declared.Measured.{Measured}
+
+-- numbers of a row: mark, length, acceleration, reach and cap
+abbrev pub rowSize : ℕ
+rowSize = 5
+
+-- numbers of a sheet with a row for each block of the longest tape
+abbrev pub sheetSize : ℕ
+sheetSize = rowSize * mostBlocks
+
+-- how many rows a sheet has, and what row k says
+abbrev pub rowsIn : List ℕ → ℕ
+rowsIn sheet = length sheet / rowSize
+
+abbrev pub measuredAt : List ℕ → (k : ℕ) → Measured
+measuredAt sheet k =
+    record {
+      mark = numberAt sheet (rowSize * k);
+      numbers =
+          record {
+            length = numberAt sheet (rowSize * k + 1);
+            accel = numberAt sheet (rowSize * k + 2);
+            reach = numberAt sheet (rowSize * k + 3);
+            cap = numberAt sheet (rowSize * k + 4);
+          };
+    }
+
+-- what is measured of a block
+abbrev pub measuredOf : Machine → Block → Measured
+measuredOf m b = record { mark = b .mark; numbers = numbersOf m b }
+
+-- the first k blocks of a tape are in the sheet, as far as it has rows
+abbrev pub Measures : Machine → (s sheet : List ℕ) (k : ℕ) → Type 0
+Measures m s sheet k = (i : ℕ) → i < k → i < rowsIn sheet → measuredAt sheet i ≡ measuredOf m (recordAt s i)
+
+-- row k is stored where the sheet has one, and the rows before it stay
+pub record Keeps (before : List ℕ) (k mark : ℕ) (n : Numbers) (after : List ℕ) : Type 0 where
+  pub sized : length after ≡ length before
+  pub row : k < rowsIn before → measuredAt after k ≡ record { mark = mark; numbers = n }
+  pub others : (i : ℕ) → i < k → measuredAt after i ≡ measuredAt before i
+
+-- a list over the beginning of another
+abbrev pub over : (from to : List ℕ) → List ℕ
+over from to = from ++ drop (length from) to
+
+-- the lent sheet after a tape for that machine is planned, or refused by a number other than 0: row k is what is measured of block k, for each block
+-- of a tape that is planned, and behind these rows it is what it was; of a tape that is refused all of it is
+pub record SheetAfter (m : Machine) (s : List ℕ) (refusal : ℕ) (before after : List ℕ) : Type 0 where
+  pub sized : length after ≡ length before
+  pub rows : refusal ≡ 0 → (k : ℕ) → k < recordsIn s → measuredAt after k ≡ measuredOf m (recordAt s k)
+  pub behind : refusal ≡ 0 → drop (rowSize * recordsIn s) after ≡ drop (rowSize * recordsIn s) before
+  pub kept : 0 < refusal → after ≡ before

@@ -1,0 +1,58 @@
+// The sheet of a survey: a row of five numbers for each block, in a list that is lent. A block that has no row in it is not
+// kept, so that who needs no sheet lends an empty list.
+ghost use mathlib.Core.Path.{_≡_};
+ghost use Prim.Native.Nat.{_<_, _≤_};
+ghost use lib.ListN.{length};
+ghost use Rattle.tapeplan.specs.Sheet.{Keeps, measuredAt, over, rowsIn};
+use crate::Measured;
+use machine::Numbers;
+use tape::MOST_BLOCKS;
+
+// Numbers of a row: the block's mark, its length, acceleration, reach and cap.
+pub const ROW: usize = 5;
+// Numbers of a sheet with a row for each block of the longest tape.
+pub const SHEET: usize = ROW * MOST_BLOCKS;
+
+// Keeps what is measured of block k as row k, where the sheet has one.
+pub(crate) fn keep(sheet: &mut [u64], k: usize, mark: u64, n: Numbers)
+    ensures { λ r. ⌜ Keeps (now (sheet .entry)) k mark n (now (sheet .exit)) ⌝ }
+{
+    if sheet.len() / ROW <= k {
+        return;
+    }
+    let at = ROW * k;
+    sheet[at] = mark;
+    sheet[at + 1] = n.length;
+    sheet[at + 2] = n.accel;
+    sheet[at + 3] = n.reach;
+    sheet[at + 4] = n.cap;
+}
+
+// Copies a list over the beginning of another.
+pub(crate) fn copy(from: &[u64], to: &mut [u64])
+    requires { ⌜ length (now from) ≤ length (now to) ⌝ }
+    ensures { λ r. ⌜ now (to .exit) ≡ over (now (from .entry)) (now (to .entry)) ⌝ }
+{
+    let mut k = 0;
+    while k < from.len() {
+        to[k] = from[k];
+        k += 1;
+    }
+}
+
+// Row k.
+pub fn measured_at(sheet: &[u64], k: usize) -> Measured
+    requires { ⌜ k < rowsIn (now sheet) ⌝ }
+    ensures { λ r. ⌜ r ≡ measuredAt (now (sheet .entry)) k ⌝ }
+{
+    let at = ROW * k;
+    Measured {
+        mark: sheet[at],
+        numbers: Numbers {
+            length: sheet[at + 1],
+            accel: sheet[at + 2],
+            reach: sheet[at + 3],
+            cap: sheet[at + 4],
+        },
+    }
+}
