@@ -2,7 +2,7 @@
 use mathlib.Core.Path.{_≡_, refl}
 use Prim.Native.Nat.{_-_, _≤_}
 use native.Mathlib.Omega.{arith}
-use lib.ListN.{length, length-set}
+use lib.ListN.{length}
 use Rattle.tapeplan.proofs.Copies.{Copying, copy-next, copy-all}
 use borrow.Author.Needs.{needs}
 use Rattle.tapeplan.proofs.sheet.copy.Statement.{statement}
