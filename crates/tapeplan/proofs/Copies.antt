@@ -6,7 +6,7 @@ use native.Mathlib.Nat.{zero-add}
 use native.Mathlib.Numerals.{add-one}
 use native.Mathlib.Omega.{arith}
 use lib.ListN.{length, getD, set, take, drop, drop-of-length-le, List·getD-append}
-use lib.Seq.{sets, sets-eq, drop-cons, getD-take, drop-at, length-take-le, length-front}
+use lib.Seq.{sets, sets-eq, drop-cons, getD-take, drop-append-seam, length-take-le, length-front}
 use Rattle.machine.specs.declared.Machine.{Machine}
 use Rattle.display.specs.Display.{Fault}
 use Rattle.display.specs.declared.Refusal.{Refusal}
@@ -33,35 +33,33 @@ pub copy-all : (from before to : List ℕ) (k : ℕ) → length from ≤ length 
 copy-all from before to k h g c =
     sym (ap (sets to k) (drop-of-length-le from g)) ∙ c ∙ sets-eq from before 0 (omega arith) ∙ ap (λ (n : ℕ). from ++ drop n before) (zero-add (length from))
 
-module _ (m : Machine) (s : List ℕ) {refusal : ℕ} where
+module _ (m : Machine) (s : List ℕ) where
   -- the sheet of a tape that is refused,
-  pub sheet-kept : {sheet : List ℕ} → 0 < refusal → SheetAfter m s refusal sheet sheet
+  pub sheet-kept : {refusal : ℕ} {sheet : List ℕ} → 0 < refusal → SheetAfter m s refusal sheet sheet
   sheet-kept h = record { sized = refl; rows = λ z. absurd (omega arith); behind = λ z. refl; kept = λ z. refl }
 
-  -- and of one that is planned: its rows are over the sheet
-  pub sheet-copied : (rows sheet : List ℕ) {n : ℕ} → refusal ≡ 0 → n ≡ recordsIn s → n ≤ rowsIn rows → length sheet ≡ length rows → Measures m s rows (recordsIn s)
-      → SheetAfter m s refusal sheet (over (take (rowSize * n) rows) sheet)
-  sheet-copied rows sheet {n} none count room same v =
-      let front : length (take (rowSize * n) rows) ≡ rowSize * n = length-take-le (rowSize * n) rows (omega arith) in
-      record {
-        sized = sized front;
-        rows =
-            λ z k h.
-            row-same (over (take (rowSize * n) rows) sheet) rows k
-            (λ i l g. List·getD-append (take (rowSize * n) rows) (drop (length (take (rowSize * n) rows)) sheet) 0 i (omega arith) ∙ getD-take (rowSize * n) rows i 0 (omega arith))
-            ∙ v k h (omega arith);
-        behind =
-            λ z.
-            ap (λ (c : ℕ). drop (rowSize * c) (over (take (rowSize * n) rows) sheet)) (sym count)
-            ∙ drop-at (take (rowSize * n) rows) (drop (length (take (rowSize * n) rows)) sheet) (rowSize * n) front
-            ∙ (λ i. drop ((front ∙ ap (λ (c : ℕ). rowSize * c) count) i) sheet);
-        kept = λ z. absurd (omega arith);
-      }
-    where
-      sized : length (take (rowSize * n) rows) ≡ rowSize * n → length (over (take (rowSize * n) rows) sheet) ≡ length sheet
-      sized front =
-          length-front sheet (take (rowSize * n) rows) (length (take (rowSize * n) rows))
-          (sym (length-take-le (length (take (rowSize * n) rows)) sheet (omega arith)))
+  -- and of one that is planned: the rows of its n blocks are over the sheet
+  module _ (rows sheet : List ℕ) (n : ℕ) where
+    abbrev front : List ℕ
+    front = take (rowSize * n) rows
+
+    pub sheet-copied : {refusal : ℕ} → refusal ≡ 0 → n ≡ recordsIn s → n ≤ rowsIn rows → length sheet ≡ length rows → Measures m s rows (recordsIn s)
+        → SheetAfter m s refusal sheet (over front sheet)
+    sheet-copied none count room same v =
+        let size : length front ≡ rowSize * n = length-take-le (rowSize * n) rows (omega arith) in
+        record {
+          sized = length-front sheet front (length front) (sym (length-take-le (length front) sheet (omega arith)));
+          rows =
+              λ z k h.
+              row-same (over front sheet) rows k
+              (λ i l g. List·getD-append front (drop (length front) sheet) 0 i (omega arith) ∙ getD-take (rowSize * n) rows i 0 (omega arith))
+              ∙ v k h (omega arith);
+          behind =
+              λ z.
+              let all : rowSize * recordsIn s ≡ length front = omega arith in
+              rw all (drop-append-seam front (drop (length front) sheet));
+          kept = λ z. absurd (omega arith);
+        }
 
 -- the answer of planning decides
 module _ (s sheet : List ℕ) {rows before after : List ℕ} {r : TapePlanned} (v : SurveyedTape s rows before after r) where
@@ -85,6 +83,6 @@ module _ (s sheet : List ℕ) {rows before after : List ℕ} {r : TapePlanned} (
           planned = rw is at (v .planned);
           sheet-after =
               rw copied (
-              sheet-copied (tapeMachine s) s rows sheet none count (omega (arith, planned-few)) (size ∙ sym long) (v .measured passed)
+              sheet-copied (tapeMachine s) s rows sheet n none count (omega (arith, planned-few)) (size ∙ sym long) (v .measured passed)
               );
         }
