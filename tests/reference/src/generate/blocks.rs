@@ -188,27 +188,26 @@ fn spoil(rng: &mut Rng, block: &mut Block, fault: u64, on_tape: bool) {
     }
 }
 
-/// Bench path: random steps of 1 to 50 µm on each axis with corners, feed
-/// 50,000 µm/s.
+/// Random steps of 1 to 50 µm on each axis with corners, feed 50,000 µm/s.
 pub fn short_steps(seed: u64, count: usize) -> Vec<Block> {
     let mut rng = Rng::new(seed);
     let mut step = || rng.within(1, 50) as i64 * rng.pick(&[-1, 1]);
     (0..count)
-        .map(|k| bench_block([step(), step(), step()], 50_000, k))
+        .map(|k| marked_block([step(), step(), step()], 50_000, k))
         .collect()
 }
 
-/// Bench path: steps of 1 to 5 µm straight on along X, feed 500,000 µm/s, so
-/// that every add moves the whole plan.
+/// Steps of 1 to 5 µm straight on along X, feed 500,000 µm/s, so that every
+/// add moves the whole plan.
 pub fn straight_steps(seed: u64, count: usize) -> Vec<Block> {
     let mut rng = Rng::new(seed);
     (0..count)
-        .map(|k| bench_block([rng.within(1, 5) as i64, 0, 0], 500_000, k))
+        .map(|k| marked_block([rng.within(1, 5) as i64, 0, 0], 500_000, k))
         .collect()
 }
 
-/// A block of a bench path, marked with its place.
-fn bench_block(moves: [i64; 3], feed: u64, place: usize) -> Block {
+/// A block marked with its place.
+fn marked_block(moves: [i64; 3], feed: u64, place: usize) -> Block {
     Block {
         moves,
         feed,
