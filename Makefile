@@ -14,6 +14,7 @@ run:
 # make bench: time and instructions of the proved code beside the independent implementation.
 bench:
 	rt staticlib fullerecru
+	rt staticlib arith_c
 	rt check planlist
 	tests/bench/run
 

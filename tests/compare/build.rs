@@ -1,8 +1,11 @@
-//! Links the proved static library from the folder that FULLERECRU_LIB names,
+//! Links the proved static libraries from the folder that FULLERECRU_LIB names,
 //! else from `target/staticlib` of the project.
 
 use std::env;
 use std::path::PathBuf;
+
+/// The library itself, and the arithmetic that only tests call.
+const LIBRARIES: [&str; 2] = ["fullerecru", "arith_c"];
 
 fn main() {
     let package = PathBuf::from(env::var_os("CARGO_MANIFEST_DIR").expect("set by cargo"));
@@ -10,14 +13,16 @@ fn main() {
         Some(folder) => PathBuf::from(folder),
         None => package.join("../../target/staticlib"),
     };
-    let archive = folder.join("libfullerecru.a");
-    assert!(
-        archive.exists(),
-        "{}: make it by rt staticlib fullerecru",
-        archive.display()
-    );
     println!("cargo:rerun-if-env-changed=FULLERECRU_LIB");
-    println!("cargo:rerun-if-changed={}", archive.display());
     println!("cargo:rustc-link-search=native={}", folder.display());
-    println!("cargo:rustc-link-lib=static=fullerecru");
+    for name in LIBRARIES {
+        let archive = folder.join(format!("lib{name}.a"));
+        assert!(
+            archive.exists(),
+            "{}: make it by rt staticlib {name}",
+            archive.display()
+        );
+        println!("cargo:rerun-if-changed={}", archive.display());
+        println!("cargo:rustc-link-lib=static={name}");
+    }
 }

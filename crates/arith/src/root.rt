@@ -1,304 +1,42 @@
-// The whole root of a number, from a table of first guesses and Newton's iteration.
+// The whole root of a number, by Newton's iteration from a guess that is at least the root.
 ghost use mathlib.Core.Path.{_≡_};
-ghost use Prim.Native.Nat.{_^_, _≤_, _<_};
+ghost use Prim.Native.Nat.{_+_, _*_, _^_, _<_};
 ghost use Rattle.arith.specs.Root.{rootOf};
 use crate::whole::pow2;
-use crate::whole::smaller;
-use crate::whole::wide;
 use crate::whole::zeros;
 
-// Entry i is 16 times the root of i + 1/2, to the nearest whole number and at most 255.
-const GUESSES: [u8; 256] = [
-    11,
-    20,
-    25,
-    30,
-    34,
-    38,
-    41,
-    44,
-    47,
-    49,
-    52,
-    54,
-    57,
-    59,
-    61,
-    63,
-    65,
-    67,
-    69,
-    71,
-    72,
-    74,
-    76,
-    78,
-    79,
-    81,
-    82,
-    84,
-    85,
-    87,
-    88,
-    90,
-    91,
-    93,
-    94,
-    95,
-    97,
-    98,
-    99,
-    101,
-    102,
-    103,
-    104,
-    106,
-    107,
-    108,
-    109,
-    110,
-    111,
-    113,
-    114,
-    115,
-    116,
-    117,
-    118,
-    119,
-    120,
-    121,
-    122,
-    123,
-    124,
-    125,
-    126,
-    127,
-    128,
-    129,
-    130,
-    131,
-    132,
-    133,
-    134,
-    135,
-    136,
-    137,
-    138,
-    139,
-    140,
-    141,
-    142,
-    143,
-    144,
-    144,
-    145,
-    146,
-    147,
-    148,
-    149,
-    150,
-    151,
-    151,
-    152,
-    153,
-    154,
-    155,
-    156,
-    156,
-    157,
-    158,
-    159,
-    160,
-    160,
-    161,
-    162,
-    163,
-    164,
-    164,
-    165,
-    166,
-    167,
-    167,
-    168,
-    169,
-    170,
-    170,
-    171,
-    172,
-    173,
-    173,
-    174,
-    175,
-    176,
-    176,
-    177,
-    178,
-    179,
-    179,
-    180,
-    181,
-    181,
-    182,
-    183,
-    183,
-    184,
-    185,
-    186,
-    186,
-    187,
-    188,
-    188,
-    189,
-    190,
-    190,
-    191,
-    192,
-    192,
-    193,
-    194,
-    194,
-    195,
-    196,
-    196,
-    197,
-    198,
-    198,
-    199,
-    200,
-    200,
-    201,
-    201,
-    202,
-    203,
-    203,
-    204,
-    205,
-    205,
-    206,
-    206,
-    207,
-    208,
-    208,
-    209,
-    210,
-    210,
-    211,
-    211,
-    212,
-    213,
-    213,
-    214,
-    214,
-    215,
-    216,
-    216,
-    217,
-    217,
-    218,
-    219,
-    219,
-    220,
-    220,
-    221,
-    221,
-    222,
-    223,
-    223,
-    224,
-    224,
-    225,
-    225,
-    226,
-    227,
-    227,
-    228,
-    228,
-    229,
-    229,
-    230,
-    230,
-    231,
-    232,
-    232,
-    233,
-    233,
-    234,
-    234,
-    235,
-    235,
-    236,
-    237,
-    237,
-    238,
-    238,
-    239,
-    239,
-    240,
-    240,
-    241,
-    241,
-    242,
-    242,
-    243,
-    243,
-    244,
-    244,
-    245,
-    246,
-    246,
-    247,
-    247,
-    248,
-    248,
-    249,
-    249,
-    250,
-    250,
-    251,
-    251,
-    252,
-    252,
-    253,
-    253,
-    254,
-    254,
-    255,
-    255,
-    255,
-];
+// From here on, 2^58, a number times a weight could pass 64 bits.
+const HUGE: u64 = 0x400_0000_0000_0000;
 
-// The power of two whose square brings n below 256 by division, and from 128 up to 64 or more.
-fn scale_of(n: u64) -> u64
-    ensures { λ r. ⌜ (0 < r) × (r ≤ 2 ^ 28) ⌝ }
-{
-    pow2((57 - smaller(zeros(n), 57)) / 2)
-}
+// The greatest root of a u64.
+const GREATEST_ROOT: u64 = 0xffff_ffff;
 
-// A first guess of the root of n, from n's leading eight bits. Whatever the table holds, the guess
-// is at least 2 and small enough that Newton's step cannot wrap; `root` needs no more of it.
+// A guess that is at least the root of n: a mean of s and n / s, s a power of two near the root, with
+// weights a and b in 64 parts. Such a mean is at least the root where 4ab is at least 64²; with the
+// weights 27 and 38, the greater one for the smaller of the two, it is at most 2 percent above it.
 fn first_guess(n: u64) -> u64
-    ensures { λ r. ⌜ (2 ≤ r) × (r ≤ 2 ^ 40) ⌝ }
+    ensures { λ r. ⌜ (r < 2 ^ 32) × (n < (r + 1) * (r + 1)) ⌝ }
 {
-    let scale = scale_of(n);
-    let top = n / scale / scale % 256;
-    wide(GUESSES[top as usize]) * scale / 16 + 2
+    if HUGE <= n {
+        return GREATEST_ROOT;
+    }
+    let digits = 64 - zeros(n);
+    let s = pow2(digits / 2);
+    let a = 27 + digits % 2 * 11;
+    let b = 65 - a;
+    (a * s + b * n / s) / 64
 }
 
-// The largest whole number whose square is not above n. From a guess that is at least the root,
-// (r + n / r) / 2 is at least the root too, and smaller, until r is the root.
+// The largest whole number whose square is not above n. From a number that is at least the root and
+// not the root, (r + n / r) / 2 is at least the root too, and smaller.
 pub fn root(n: u64) -> u64
     ensures { λ r. ⌜ r ≡ rootOf n ⌝ }
 {
-    if n == 0 {
-        return 0;
-    }
-    let guess = first_guess(n);
-    let mut r = (guess + n / guess) / 2;
+    let mut r = first_guess(n);
     loop {
-        let q = n / r;
-        if r <= q {
+        if r * r <= n {
             break r;
         }
-        r = (r + q) / 2;
+        r = (r + n / r) / 2;
     }
 }

@@ -32,13 +32,6 @@ pub(crate) fn pow2(k: u64) -> u64
     1 << k
 }
 
-// A byte as a u64.
-pub fn wide(x: u8) -> u64
-    ensures { λ r. ⌜ (r ≡ x) × (r < 256) ⌝ }
-{
-    x as u64
-}
-
 // The number of 0 bits before the first 1 of a u64; 64 for 0.
 pub fn zeros(x: u64) -> u64
     ensures { λ r. ⌜ (r ≡ leadingZeros 64 x) × (r ≤ 64) ⌝ }

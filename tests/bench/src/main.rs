@@ -1,5 +1,5 @@
-//! Prints time and instructions of the proved planner beside those of the
-//! reference, and what planlist takes. Fails where the two differ.
+//! Prints time and instructions of the proved planner and root beside those of
+//! the reference, and what planlist takes. Fails where the two differ.
 
 mod callgrind;
 mod list;
@@ -18,8 +18,18 @@ use work::{Ready, Side, Work};
 const ROUNDS: usize = 9;
 const TIMES: usize = 10;
 
-const WORKS: [(&str, Work); 2] = [("planner", Work::Planner), ("tape", Work::Tape)];
+const WORKS: [(&str, Work); 3] = [
+    ("planner", Work::Planner),
+    ("tape", Work::Tape),
+    ("root", Work::Root),
+];
 const PATHS: [(&str, Path); 2] = [("mould", Path::Mould), ("straight", Path::Straight)];
+const STEPS: [(&str, Path); 4] = [
+    ("1 to 5 µm", Path::Steps(1, 5)),
+    ("1 to 50 µm", Path::Steps(1, 50)),
+    ("1 to 10 mm", Path::Steps(1_000, 10_000)),
+    ("0.1 to 1 m", Path::Steps(100_000, 1_000_000)),
+];
 const SIDES: [(&str, Side); 2] = [("proved", Side::Proved), ("reference", Side::Reference)];
 
 /// Without arguments the whole table; `count WORK PATH SIDE` runs that once,
@@ -30,14 +40,22 @@ fn main() -> ExitCode {
         [] => table(),
         ["count", work, path, side] => {
             let (work, side) = (named(&WORKS, work), named(&SIDES, side));
-            let mut ready = Ready::new(work, side, named(&PATHS, path), work.counted());
+            let mut ready = Ready::new(work, side, named(paths(work), path), work.counted());
             println!("{}", ready.run());
             ExitCode::SUCCESS
         }
         _ => {
-            eprintln!("bench | bench count planner|tape mould|straight proved|reference");
+            eprintln!("bench | bench count planner|tape|root PATH proved|reference");
             ExitCode::FAILURE
         }
+    }
+}
+
+/// The paths that a work is measured on.
+fn paths(work: Work) -> &'static [(&'static str, Path)] {
+    match work {
+        Work::Planner | Work::Tape => &PATHS,
+        Work::Root => &STEPS,
     }
 }
 
@@ -49,7 +67,7 @@ fn named<T: Copy>(choices: &[(&str, T)], name: &str) -> T {
         .1
 }
 
-/// Prints the table; fails where the two sides found other speeds.
+/// Prints the table; fails where the two sides found other numbers.
 fn table() -> ExitCode {
     println!(
         "{:<18} {:<20} {:>10} {:>10} {:>7}",
@@ -57,14 +75,14 @@ fn table() -> ExitCode {
     );
     let mut agree = true;
     for (work, doing) in WORKS {
-        for (path, over) in PATHS {
+        for &(path, over) in paths(doing) {
             let counts = SIDES.map(|(side, by)| count([work, path, side], doing, by));
             line(&format!("{work}, {path}"), "instructions", counts);
             let [proved, reference] = SIDES.map(|(_, side)| time(doing, side, over));
             line("", "ns", [Some(proved.0), Some(reference.0)]);
             if proved.1 != reference.1 {
                 eprintln!(
-                    "{work}, {path}: the sums of speeds differ: {} and {}",
+                    "{work}, {path}: the sums of what was found differ: {} and {}",
                     proved.1, reference.1
                 );
                 agree = false;
@@ -89,7 +107,7 @@ fn line(name: &str, unit: &str, [proved, reference]: [Option<f64>; 2]) {
     println!("{name:<18} {unit:<20} {proved:>10} {reference:>10} {ratio:>7}");
 }
 
-/// Shortest time per block, ns, and the sum of the speeds found.
+/// Shortest time per block, ns, and the sum of what was found.
 fn time(work: Work, side: Side, path: Path) -> (f64, u64) {
     let mut best = f64::INFINITY;
     let mut sum = 0;

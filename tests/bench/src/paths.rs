@@ -1,5 +1,6 @@
-//! The two paths that planners are measured on. Whole numbers only, so that
-//! every machine and every planner's harness makes the same blocks.
+//! The two paths that planners are measured on, and the steps that the root is.
+//! Whole numbers only, so that every machine and every planner's harness makes
+//! the same blocks.
 
 use std::iter;
 
@@ -14,6 +15,8 @@ pub enum Path {
     /// X moves of 1 to 5 µm, feed 500,000 µm/s. Every add moves the limits of
     /// all blocks held.
     Straight,
+    /// Moves of a least and a greatest size on each axis, µm, feed 50,000 µm/s.
+    Steps(u64, u64),
 }
 
 impl Path {
@@ -25,6 +28,11 @@ impl Path {
             Path::Straight => {
                 let moves = iter::repeat_with(|| [1 + draws.below(5), 0, 0]);
                 marked(moves, 500_000, count)
+            }
+            Path::Steps(least, most) => {
+                let mut drawn = || least as i64 + draws.below(most - least + 1);
+                let moves = iter::repeat_with(|| [drawn(), drawn(), drawn()]);
+                marked(moves, 50_000, count)
             }
         }
     }
@@ -209,8 +217,16 @@ mod tests {
     }
 
     #[test]
+    fn steps_are_drawn_on_each_axis() {
+        assert_eq!(moves(Path::Steps(1, 5), 0..1), [[4, 5, 3]]);
+        let millimetres = [[9_747, 1_024, 4_477]];
+        assert_eq!(moves(Path::Steps(1_000, 10_000), 0..1), millimetres);
+    }
+
+    #[test]
     fn blocks_have_feed_and_place_and_no_curve() {
-        for (path, feed) in [(Path::Mould, 50_000), (Path::Straight, 500_000)] {
+        let steps = Path::Steps(1, 50);
+        for (path, feed) in [(Path::Mould, 50_000), (Path::Straight, 500_000), (steps, 50_000)] {
             for (place, block) in (0..).zip(path.blocks(100)) {
                 assert_eq!((block.feed, block.radius, block.mark), (feed, 0, place));
             }

@@ -27,13 +27,15 @@ pub enum Work {
     Planner,
     /// The plan of tapes of 2,048 blocks.
     Tape,
+    /// The root of the sum of each block's squared moves.
+    Root,
 }
 
 impl Work {
     /// Blocks in which instructions are counted: of tapes, ten whole ones.
     pub fn counted(self) -> usize {
         match self {
-            Work::Planner => 20_000,
+            Work::Planner | Work::Root => 20_000,
             Work::Tape => 10 * MOST_BLOCKS,
         }
     }
@@ -45,6 +47,8 @@ impl Work {
             (Work::Planner, Side::Reference) => "feed_reference",
             (Work::Tape, Side::Proved) => "plan_proved",
             (Work::Tape, Side::Reference) => "plan_reference",
+            (Work::Root, Side::Proved) => "roots_proved",
+            (Work::Root, Side::Reference) => "roots_reference",
         }
     }
 }
@@ -55,6 +59,8 @@ pub enum Ready {
     FeedReference(Box<Planner>, Vec<Block>),
     PlanProved(Vec<u8>, usize),
     PlanReference(Tape, usize),
+    RootsProved(Vec<u64>),
+    RootsReference(Vec<u64>),
 }
 
 impl Ready {
@@ -79,6 +85,13 @@ impl Ready {
                     Side::Reference => Ready::PlanReference(tape, runs),
                 }
             }
+            (Work::Root, side) => {
+                let sums = path.blocks(count).iter().map(squares).collect();
+                match side {
+                    Side::Proved => Ready::RootsProved(sums),
+                    Side::Reference => Ready::RootsReference(sums),
+                }
+            }
         }
     }
 
@@ -87,19 +100,28 @@ impl Ready {
         match self {
             Ready::FeedProved(_, blocks) | Ready::FeedReference(_, blocks) => blocks.len(),
             Ready::PlanProved(_, runs) | Ready::PlanReference(_, runs) => runs * MOST_BLOCKS,
+            Ready::RootsProved(sums) | Ready::RootsReference(sums) => sums.len(),
         }
     }
 
-    /// Runs it and gives the sum of the squared speeds found, (µm/s)²: the
-    /// exits of the blocks taken, or every number of each plan.
+    /// Runs it and gives the sum of what is found: the squared speeds at the
+    /// exits of the blocks taken or every number of each plan, (µm/s)², or the
+    /// roots, µm.
     pub fn run(&mut self) -> u64 {
         match self {
             Ready::FeedProved(memory, blocks) => feed_proved(memory, blocks),
             Ready::FeedReference(planner, blocks) => feed_reference(planner, blocks),
             Ready::PlanProved(tape, runs) => plan_proved(tape, *runs),
             Ready::PlanReference(tape, runs) => plan_reference(tape, *runs),
+            Ready::RootsProved(sums) => roots_proved(sums),
+            Ready::RootsReference(sums) => roots_reference(sums),
         }
     }
+}
+
+/// The sum of a block's squared moves, µm².
+fn squares(block: &Block) -> u64 {
+    block.moves.iter().map(|m| m.unsigned_abs().pow(2)).sum()
 }
 
 /// A proved planner that holds the blocks.
@@ -180,4 +202,16 @@ fn plan_reference(tape: &Tape, runs: usize) -> u64 {
         sum += black_box(plan).expect("a plan").iter().sum::<u64>();
     }
     sum
+}
+
+#[inline(never)]
+fn roots_proved(sums: &[u64]) -> u64 {
+    let roots = sums.iter().map(|n| unsafe { fullerecru_arith_root(*n) });
+    roots.sum()
+}
+
+/// By the standard library's root.
+#[inline(never)]
+fn roots_reference(sums: &[u64]) -> u64 {
+    sums.iter().map(|n| black_box(*n).isqrt()).sum()
 }

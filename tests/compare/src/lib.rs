@@ -1,6 +1,6 @@
 //! The proved code as Rust calls, to be compared with the reference.
 //!
-//! `library` has the functions of the static library. `proved` calls them; what
+//! `library` has the functions of the static libraries. `proved` calls them; what
 //! it lends lies between guards, and each call sees that the guards and all
 //! that is lent to be read stay as they were, and on a refusal everything lent
 //! (but for the place of a tape's fault, which every call writes). `programs`

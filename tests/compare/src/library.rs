@@ -1,4 +1,5 @@
-//! The functions of libfullerecru.a, as include/fullerecru.h says.
+//! The functions of libfullerecru.a, as include/fullerecru.h says, and of
+//! libarith_c.a.
 
 /// Numbers of a planner's memory.
 pub const NUMBERS: usize = 781;
@@ -54,4 +55,8 @@ extern "C" {
         junctions: usize,
         told: *mut u64,
     ) -> u64;
+}
+
+extern "C" {
+    pub fn fullerecru_arith_root(n: u64) -> u64;
 }

@@ -1,6 +1,6 @@
 //! The calls of libfullerecru.a. Each lends copies between guards, and sees
 //! that what is lent to be read stays as it was, and after a refusal every
-//! lent number and byte.
+//! lent number and byte. The root is lent nothing.
 
 use std::cell::Cell;
 use std::fmt::Debug;
@@ -47,6 +47,11 @@ fn confirm<T: Copy + PartialEq + Debug>(number: u64, before: &[T], after: &Guard
     if number != 0 {
         assert!(after.list() == before, "refused by {number}, yet it wrote");
     }
+}
+
+/// The root of a number, from libarith_c.a.
+pub fn root(n: u64) -> u64 {
+    unsafe { fullerecru_arith_root(n) }
 }
 
 /// Limits read from the bytes.

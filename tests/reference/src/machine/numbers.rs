@@ -43,7 +43,11 @@ pub fn parts(micrometres: u64) -> u64 {
 /// squared moves.
 pub fn length_of(block: &Block) -> u64 {
     let squares = block.moves.iter().map(|m| size(*m).pow(2));
-    let sum: u128 = squares.sum();
+    root_of(squares.sum())
+}
+
+/// Largest whole number whose square is not above a sum.
+pub fn root_of(sum: u128) -> u64 {
     largest(|l| l * l <= sum) as u64
 }
 

@@ -1,44 +1,36 @@
--- `arith::root::root` meets its contract. The invariant: r is above 0, at least the root, and its double fits; Newton's laws keep it. The measure is r.
-use mathlib.Core.Path.{sym, ap, _∙_}
-use Prim.Native.Nat.{_+_, _*_, _/_, _^_, _≤_, _<_}
+-- `arith::root::root` meets its contract. The invariant: r is at least the root, and its square fits; Newton's laws keep it. The measure is r.
+use Prim.Native.Nat.{_+_, _*_, _/_, _^_, _<_}
 use borrow.Author.Needs.{needs}
 use native.Mathlib.Omega.{arith}
-use native.Mathlib.Nat.{div-le-of-le-mul}
-use Rattle.arith.specs.Root.{rootOf}
-use Rattle.arith.proofs.RootLaws.{root-of-zero, newton-above, newton-turn, newton-ends}
+use Rattle.arith.proofs.Division.{half-product}
+use Rattle.arith.proofs.RootLaws.{newton-above, newton-falls, newton-ends}
 use Rattle.arith.proofs.root.root.Statement.{statement}
 use Rattle.arith.proofs.root.root.Tie as tie
 
 abbrev Inv-loop : tie.InvT-loop
-Inv-loop n guess r₀ r = (0 < r) × (r < 2 ^ 63) × (n < (r + 1) * (r + 1))
+Inv-loop n r₀ r = (r < 2 ^ 32) × (n < (r + 1) * (r + 1))
 
 abbrev μ-loop : tie.MeasureT-loop
-μ-loop n guess r₀ r = r
+μ-loop n r₀ r = r
 
--- the guess is at least 2
-first-quotient : (c : tie.After-first-guess Inv-loop μ-loop) → c .before .before .args .n / c .first-guess .result ≤ 2 ^ 63
-first-quotient c = div-le-of-le-mul (c .first-guess .result) (omega arith)
+mul-if1 : tie.Need-mul-if1 Inv-loop μ-loop
+mul-if1 c = record { fits = omega (arith, half-product (c .loop .inv .0) (c .loop .inv .0)) }
 
-returns : tie.Need-returns Inv-loop μ-loop
-returns c = sym (ap rootOf (c .if1 .taken) ∙ root-of-zero)
+-- r is above 0, and above n / r
+falls : (c : tie.Else1 Inv-loop μ-loop) → (0 < c .before .loop .r) × (c .before .before .before .args .n / c .before .loop .r < c .before .loop .r)
+falls c = newton-falls _ _ (c .if1 .left)
 
 add-r : tie.Need-add-r Inv-loop μ-loop
-add-r c = record { fits = omega (arith, first-quotient c) }
+add-r c = record { fits = omega (arith, falls c .1) }
 
-loop-holds : tie.Need-loop-holds Inv-loop μ-loop
-loop-holds c =
-    let n = c .before .before .args .n in
-    let g = c .first-guess .result in
-    (newton-turn n g (omega (arith, c .before .if1 .left)) (omega arith), omega (arith, first-quotient c), newton-above n g (omega arith))
+loop-less : tie.Need-loop-less Inv-loop μ-loop
+loop-less c = omega (arith, falls c .1)
 
 loop-again : tie.Need-loop-again Inv-loop μ-loop
-loop-again c =
-    let n = c .before .before .before .before .args .n in
-    let r = c .before .loop .r in
-    (newton-turn n r (omega (arith, c .before .before .before .if1 .left)) (omega arith), omega arith, newton-above n r (omega arith))
+loop-again c = (omega (arith, falls c .1), newton-above _ _ (falls c .0))
 
-returns-2 : tie.Need-returns-2 Inv-loop μ-loop
-returns-2 c = newton-ends (c .before .loop .inv .0) (c .before .loop .inv .2) (c .if2 .taken)
+returns : tie.Need-returns Inv-loop μ-loop
+returns c = newton-ends (c .before .loop .inv .1) (c .if1 .taken)
 
 pub root-spec : {M : Type 1} → statement M
 root-spec =
@@ -46,13 +38,11 @@ root-spec =
     (tie.spec
     Inv-loop
     μ-loop
-    returns
     (λ c κs. search needs)
     (λ c. search needs)
+    mul-if1
+    (λ c. falls c .0)
     add-r
-    loop-holds
-    (λ c. search needs)
-    (λ c. search needs)
-    (λ c. search needs)
+    loop-less
     loop-again
-    returns-2)
+    returns)
