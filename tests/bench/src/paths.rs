@@ -225,8 +225,12 @@ mod tests {
 
     #[test]
     fn blocks_have_feed_and_place_and_no_curve() {
-        let steps = Path::Steps(1, 50);
-        for (path, feed) in [(Path::Mould, 50_000), (Path::Straight, 500_000), (steps, 50_000)] {
+        let feeds = [
+            (Path::Mould, 50_000),
+            (Path::Straight, 500_000),
+            (Path::Steps(1, 50), 50_000),
+        ];
+        for (path, feed) in feeds {
             for (place, block) in (0..).zip(path.blocks(100)) {
                 assert_eq!((block.feed, block.radius, block.mark), (feed, 0, place));
             }
