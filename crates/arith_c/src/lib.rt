@@ -6,7 +6,7 @@ use arith::root::root;
 
 // The largest whole number whose square is not above n.
 #[no_mangle]
-pub extern "C" fn fullerecru_arith_root(n: u64) -> u64
+pub extern "C" fn arith_root(n: u64) -> u64
     ensures { λ r. ⌜ r ≡ rootOf n ⌝ }
 {
     root(n)

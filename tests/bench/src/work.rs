@@ -206,7 +206,7 @@ fn plan_reference(tape: &Tape, runs: usize) -> u64 {
 
 #[inline(never)]
 fn roots_proved(sums: &[u64]) -> u64 {
-    let roots = sums.iter().map(|n| unsafe { fullerecru_arith_root(*n) });
+    let roots = sums.iter().map(|n| unsafe { arith_root(*n) });
     roots.sum()
 }
 

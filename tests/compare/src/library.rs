@@ -58,5 +58,5 @@ extern "C" {
 }
 
 extern "C" {
-    pub fn fullerecru_arith_root(n: u64) -> u64;
+    pub fn arith_root(n: u64) -> u64;
 }

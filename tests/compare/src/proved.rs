@@ -51,7 +51,7 @@ fn confirm<T: Copy + PartialEq + Debug>(number: u64, before: &[T], after: &Guard
 
 /// The root of a number, from libarith_c.a.
 pub fn root(n: u64) -> u64 {
-    unsafe { fullerecru_arith_root(n) }
+    unsafe { arith_root(n) }
 }
 
 /// Limits read from the bytes.
