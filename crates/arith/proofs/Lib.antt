@@ -1,7 +1,6 @@
 -- The laws of arith, over plain numbers.
 pub mod Division
 pub mod QuotientLaws
-pub mod GuessLaws
 pub mod RootLaws
 pub mod SignedLaws
 pub mod Squares

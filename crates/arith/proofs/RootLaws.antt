@@ -1,11 +1,13 @@
--- `rootOf n` is the largest whole number whose square is not above n; a mean of a number and n by it, as Newton's step is, is at least that root. From `Squares`.
+-- `rootOf n` is the largest whole number whose square is not above n, and Newton's step from any number above 0 is at least that root. From `Squares`.
 use mathlib.Core.Path.{_≡_, refl}
 use mathlib.Core.Bool.{Bool, true, false, cond}
-use Prim.Native.Nat.{ℕ, zero, suc, _+_, _*_, _/_, _≤_, _<_}
-use native.Mathlib.Nat.{le-refl, lt-of-le-of-lt, mul-assoc, mul-mul-mul-comm, mul-le-mul, mul-le-mul-right, mul-lt-mul-of-pos-left, lt-of-mul-lt-mul-left, lt-mul-div-succ, one-mul, div-lt-iff-lt-mul}
+use Prim.Native.Nat.{ℕ, zero, suc, _+_, _*_, _-_, _/_, _^_, _≤_, _<_}
+use native.Mathlib.Nat.{le-refl, lt-of-le-of-lt, lt-of-lt-of-le, mul-le-mul, lt-mul-div-succ, div-lt-iff-lt-mul}
 use native.Mathlib.Omega.{arith}
 use borrow.Author.Tests.{leb-true, leb-false}
+use lib.Count.{leadingZeros, leading-length}
 use lib.Dec.{leb}
+use lib.Pow.{pow-mono, pow-pos, shr-lt}
 use Rattle.arith.specs.Root.{IsRoot, rootOf, rootByDigits, nextRoot}
 use Rattle.arith.proofs.Squares.{square-next, square-double, square-less, four-product}
 
@@ -46,28 +48,37 @@ root-unique h g = omega (arith, below-next h g, below-next g h)
 pub root-largest : (n r : ℕ) → r * r ≤ n → r ≤ rootOf n
 root-largest n r h = omega (arith, square-less (lt-of-le-of-lt h (root-is n .next-above)))
 
--- the mean of s and n / s with weights a and b in c parts is at least the root of n, where 4ab is at least the square of c
-pub mean-above : (a b c n s : ℕ) → 0 < a → 0 < c → 0 < s → c * c ≤ 4 * (a * b) → n < ((a * s + b * n / s) / c + 1) * ((a * s + b * n / s) / c + 1)
-mean-above a b c n s weighs parts above h =
-    let q = b * n / s in
-    let m = (a * s + q) / c + 1 in
-    let near : a * s + (q + 1) ≤ c * m = omega (arith, lt-mul-div-succ (a * s + q) parts) in
-    let wide = mul-le-mul {n₁ = a * s + (q + 1)} {m₁ = a * s + (q + 1)} {n₂ = c * m} {m₂ = c * m} near near in
-    let weighed = mul-lt-mul-of-pos-left {m = b * n} {n = s * (q + 1)} {k = a} (lt-mul-div-succ (b * n) above) weighs in
-    lt-of-mul-lt-mul-left (c * c) (omega (arith, mul-le-mul-right n h, mul-assoc 4 (a * b) n, mul-assoc a b n, weighed, mul-assoc a s (q + 1), four-product (a * s) (q + 1), wide, mul-mul-mul-comm c m c m))
-
--- so is Newton's step from any g above 0, their plain mean
+-- Newton's step from any g above 0 is at least the root of n
 pub newton-above : (n g : ℕ) → 0 < g → n < ((g + n / g) / 2 + 1) * ((g + n / g) / 2 + 1)
-newton-above n g h = rw (one-mul g, one-mul n) at (mean-above 1 1 2 n g (omega arith) (omega arith) h (omega arith))
+newton-above n g h =
+    let q = n / g in
+    let m = (g + q) / 2 + 1 in
+    let wide = mul-le-mul {n₁ = g + (q + 1)} {m₁ = g + (q + 1)} {n₂ = 2 * m} {m₂ = 2 * m} (omega arith) (omega arith) in
+    omega (arith, lt-mul-div-succ n h, four-product g (q + 1), square-double m, wide)
+
+-- 2 to half the number of n's binary digits is above 0, and Newton's step from it is below 2^32
+pub guess-below : (n z s : ℕ) → z ≡ leadingZeros 64 n → n < 2 ^ 64 → s ≡ 2 ^ ((64 - z) / 2) → (0 < s) × ((s + n / s) / 2 < 2 ^ 32)
+guess-below n z s e h f =
+    let k = (64 - z) / 2 in
+    let digits = leading-length 64 n h in
+    let scale = pow-mono {i = k} {j = 32} (omega arith) in
+    let divided = shr-lt 32 k (lt-of-lt-of-le (digits .2) (pow-mono (omega (arith, e, digits .1)))) in
+    rw f (pow-pos k, omega (arith, scale, divided))
+
+-- a number that is at least the root stays so as it grows
+pub grown-above : {n g r : ℕ} → g ≤ r → n < (g + 1) * (g + 1) → n < (r + 1) * (r + 1)
+grown-above {g = g} {r = r} le h = lt-of-lt-of-le h (mul-le-mul {n₁ = g + 1} {m₁ = g + 1} (omega arith) (omega arith))
 
 square-above-zero : (n r : ℕ) → n < r * r → 0 < r
 square-above-zero n zero h = omega arith
 square-above-zero n (suc r) h = omega arith
 
--- a number whose square is above n is above 0, and above n by it
-pub newton-falls : (n r : ℕ) → n < r * r → (0 < r) × (n / r < r)
-newton-falls n r h = let above = square-above-zero n r h in (above, div-lt-iff-lt-mul above .1 h)
+-- where the square of the number below r is above n, r is at least 2, and above n by it
+pub newton-falls : (n r : ℕ) → n < (r - 1) * (r - 1) → (2 ≤ r) × (n / r < r)
+newton-falls n r h =
+    let above : 2 ≤ r = omega (arith, square-above-zero n (r - 1) h) in
+    (above, div-lt-iff-lt-mul {k = r} {x = n} {y = r} (omega arith) .1 (omega (arith, h, mul-le-mul {n₁ = r - 1} {m₁ = r - 1} {n₂ = r} {m₂ = r} (omega arith) (omega arith))))
 
--- where r is at least the root and its square is not above n, it is the root
-pub newton-ends : {n r : ℕ} → n < (r + 1) * (r + 1) → r * r ≤ n → r ≡ rootOf n
-newton-ends {n} above h = root-unique (record { not-above = h; next-above = above }) (root-is n)
+-- the number whose square is not above n, and the next number's is
+pub root-found : {n r : ℕ} → r * r ≤ n → n < (r + 1) * (r + 1) → r ≡ rootOf n
+root-found {n} h above = root-unique (record { not-above = h; next-above = above }) (root-is n)
