@@ -73,12 +73,12 @@ square-above-zero : (n r : ℕ) → n < r * r → 0 < r
 square-above-zero n zero h = omega arith
 square-above-zero n (suc r) h = omega arith
 
--- where the square of the number below r is above n, r is at least 2, and above n by it
+-- where the square of the number below r is above n, r is at least 2, and above n / r
 pub newton-falls : (n r : ℕ) → n < (r - 1) * (r - 1) → (2 ≤ r) × (n / r < r)
 newton-falls n r h =
     let above : 2 ≤ r = omega (arith, square-above-zero n (r - 1) h) in
     (above, div-lt-iff-lt-mul {k = r} {x = n} {y = r} (omega arith) .1 (omega (arith, h, mul-le-mul {n₁ = r - 1} {m₁ = r - 1} {n₂ = r} {m₂ = r} (omega arith) (omega arith))))
 
--- the number whose square is not above n, and the next number's is
+-- a number whose square is not above n, while the square of the next one is, is the root
 pub root-found : {n r : ℕ} → r * r ≤ n → n < (r + 1) * (r + 1) → r ≡ rootOf n
 root-found {n} h above = root-unique (record { not-above = h; next-above = above }) (root-is n)

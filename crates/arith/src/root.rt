@@ -6,8 +6,8 @@ use crate::whole::larger;
 use crate::whole::pow2;
 use crate::whole::zeros;
 
-// A guess that is at least the root of n and at most 7 percent above it: Newton's step from the power
-// of two that has half the binary digits of n, by which a division is a shift.
+// A guess that is at least the root of n and at most 6.1 percent above it: Newton's step from 2 to
+// half the number of n's binary digits, by which a division is a shift.
 fn first_guess(n: u64) -> u64
     ensures { λ r. ⌜ (r < 2 ^ 32) × (n < (r + 1) * (r + 1)) ⌝ }
 {
@@ -25,7 +25,8 @@ fn root_beside(n: u64, r: u64) -> u64
 
 // The largest whole number whose square is not above n. From a number that is at least the root,
 // Newton's step is at least the root too, and smaller. The search ends as soon as the root is r or the
-// number below it: roots up to 20 are found without a step, and so without a division.
+// number below it: roots up to 20 are found without a step, and so without a division. Only the guess
+// of 0 is 0; it begins with 1, so that there is a number below.
 pub fn root(n: u64) -> u64
     ensures { λ r. ⌜ r ≡ rootOf n ⌝ }
 {
