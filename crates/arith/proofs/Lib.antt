@@ -1,5 +1,6 @@
 -- The laws of arith, over plain numbers.
 pub mod Division
+pub mod NearestLaws
 pub mod QuotientLaws
 pub mod RootLaws
 pub mod SignedLaws

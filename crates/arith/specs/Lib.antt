@@ -1,4 +1,5 @@
--- What the contracts of arith speak of.
+-- What the contracts and laws of arith speak of.
+pub mod Nearest
 pub mod Quotient
 pub mod Root
 pub mod Signed

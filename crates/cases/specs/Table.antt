@@ -1,4 +1,4 @@
--- Document 01's starred proof cases, in its order: what the definitions compute, and what the paper says.
+-- Document 01's starred proof cases, in its order, with those of the requests: what the definitions compute, and what the papers say.
 -- The theorem `every-case-holds` of `proofs/` proves them together.
 use mathlib.Core.List.{List, _∷_, _++_, map, []}
 use mathlib.Core.Path.{_≡_}
@@ -79,6 +79,8 @@ table =
     -- One block (1000,0,0): plan 0, 0; peak 200,000,000; up 500, cruise 0, down 500
     ∷ (plan (east ∷ []) gives 0 ∷ 0 ∷ [])
     ∷ (firstRamp east [] gives 200_000_000 ∷ 500 ∷ 0 ∷ 500 ∷ [])
+    -- One block (1001,0,0), Q-2: up and down are 500.5, a half that goes down in up and up in down
+    ∷ (firstRamp (block (pos 1_001) (pos 0) (pos 0)) [] gives 200_200_000 ∷ 500 ∷ 0 ∷ 501 ∷ [])
     -- Two blocks (1000,0,0): plan 0, 400,000,000, 0
     ∷ (plan (east ∷ east ∷ []) gives 0 ∷ 400_000_000 ∷ 0 ∷ [])
     -- Add 64 is taken, 65 is refused by 7; after one take it is accepted

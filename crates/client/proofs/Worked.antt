@@ -58,7 +58,7 @@ pairGiven b entry exit up down =
       accel = 200_000;
       entry = entry;
       exit = exit;
-      ramp = record { peak = 201_000_000; up = up; cruise = 1; down = down };
+      ramp = record { peak = 201_000_000; up = up; cruise = 0; down = down };
     }
 
 -- What the definitions compute.
@@ -66,8 +66,8 @@ pub record Worked : Type 0 where
   -- the plan of two blocks straight on
   pub straight : linePlan (lineOfTwo ahead ahead) ≡ 0 ∷ 400_000_000 ∷ 0 ∷ []
   -- the right-angle pair, given out block after block
-  pub first : lineAnswer (lineOfTwo east north) take ≡ gave (pairGiven east 0 2_000_000 502 497)
-  pub second : lineAnswer (lineAfter (lineOfTwo east north) take) take ≡ gave (pairGiven north 2_000_000 0 497 502)
+  pub first : lineAnswer (lineOfTwo east north) take ≡ gave (pairGiven east 0 2_000_000 502 498)
+  pub second : lineAnswer (lineAfter (lineOfTwo east north) take) take ≡ gave (pairGiven north 2_000_000 0 497 503)
   -- the block that does not move is refused by 2, and the line stays
   pub refusal : lineAnswer (lineOfOne ahead) (add still) ≡ refused 2
   pub stays : length (lineAfter (lineOfOne ahead) (add still) .blocks) ≡ 1
@@ -100,10 +100,10 @@ same-number : (n m : ℕ) → refused n ≡ refused m → n ≡ m
 same-number n m e = cc
 
 -- so the pair is given out with these numbers
-pub gives-first : (g : Given) → gave g ≡ lineAnswer (lineOfTwo east north) take → Gives g 7 0 2_000_000 502 497
+pub gives-first : (g : Given) → gave g ≡ lineAnswer (lineOfTwo east north) take → Gives g 7 0 2_000_000 502 498
 gives-first g e = gives g east _ _ _ _ (e ∙ worked .first)
 
-pub gives-second : (g : Given) → gave g ≡ lineAnswer (lineAfter (lineOfTwo east north) take) take → Gives g 8 2_000_000 0 497 502
+pub gives-second : (g : Given) → gave g ≡ lineAnswer (lineAfter (lineOfTwo east north) take) take → Gives g 8 2_000_000 0 497 503
 gives-second g e = gives g north _ _ _ _ (e ∙ worked .second)
 
 pub first-given : (n : ℕ) → refused n ≡ lineAnswer (lineOfTwo east north) take → ⊥

@@ -41,7 +41,7 @@ PairDemand3 l a b r lent left =
 pub record Ramps (r : Ramp) (up down : ℕ) : Type 0 where
   pub peak-is : r .peak ≡ 201_000_000
   pub up-is : r .up ≡ up
-  pub cruise-is : r .cruise ≡ 1
+  pub cruise-is : r .cruise ≡ 0
   pub down-is : r .down ≡ down
 
 -- a block of it given out with these numbers

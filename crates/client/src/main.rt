@@ -50,7 +50,7 @@ fn expect_ramp(ramp: Ramp, up: u64, down: u64)
 {
     check::expect(ramp.peak == 201_000_000);
     check::expect(ramp.up == up);
-    check::expect(ramp.cruise == 1);
+    check::expect(ramp.cruise == 0);
     check::expect(ramp.down == down);
 }
 
@@ -96,12 +96,12 @@ fn right_angle() {
     let second = left.take();
     let before = first.answer;
     match before {
-        TakeAnswer::Given(g) => expect_given(g, 7, 0, 2_000_000, 502, 497),
+        TakeAnswer::Given(g) => expect_given(g, 7, 0, 2_000_000, 502, 498),
         TakeAnswer::Refused(_) => check::expect(false),
     }
     let after = second.answer;
     match after {
-        TakeAnswer::Given(g) => expect_given(g, 8, 2_000_000, 0, 497, 502),
+        TakeAnswer::Given(g) => expect_given(g, 8, 2_000_000, 0, 497, 503),
         TakeAnswer::Refused(_) => check::expect(false),
     }
 }

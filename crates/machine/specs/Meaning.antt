@@ -1,9 +1,10 @@
--- What document 01 says of the numbers where it says "the largest whole number with ...", in its own inequalities.
--- The definitions of `Numbers` compute by roots and quotients; the laws of `proofs/` say that they are these numbers.
+-- What document 01 says of the numbers where it says "the largest whole number with ...", in its own inequalities, and Q-2 where it
+-- says "nearest". The definitions of `Numbers` compute by roots and quotients; the laws of `proofs/` say that they are these numbers.
 use mathlib.Core.Path.{_≡_}
 use Prim.Native.Nat.{ℕ, _+_, _*_, _≤_, _<_}
 use lib.IntN.{ℤ, pos, _-ℤ_}
 use lib.Signed.{_≤ℤ_}
+use Rattle.arith.specs.Nearest.{NearestHalfDown, NearestHalfUp}
 use Rattle.machine.specs.Checks.{movesOf}
 use Rattle.machine.specs.Numbers.{CornerCap, none, upTo, unit, lengthOf, blockCap, chordFactor, cornerCap}
 use Rattle.machine.specs.declared.Axes.{Axes}
@@ -56,3 +57,11 @@ JunctionFits l a b q = (q ≤ blockCap l a) × (q ≤ blockCap l b) × CornerFit
 -- a peak under the block cap whose rise and fall together stay within the reach
 abbrev pub PeakFits : (cap reach entry exit : ℕ) → ℕ → Type 0
 PeakFits cap reach entry exit p = (p ≤ cap) × (2 * p ≤ reach + entry + exit)
+
+-- the length of speeding up by `rise`, (µm/s)²: the nearest to rise / (2 × a), an exact half down
+abbrev pub UpIs : (rise accel up : ℕ) → Type 0
+UpIs rise accel = NearestHalfDown (unit * rise) (2 * accel)
+
+-- the length of braking by `fall`, (µm/s)²: the nearest to fall / (2 × a), an exact half up
+abbrev pub DownIs : (fall accel down : ℕ) → Type 0
+DownIs fall accel = NearestHalfUp (unit * fall) (2 * accel)

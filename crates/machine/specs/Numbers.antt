@@ -158,13 +158,13 @@ pub record Joinable (jump : ℕ) (a : Block) (na : Numbers) (b : Block) (nb : Nu
 unfoldable pub peakOf : (cap reach entry exit : ℕ) → ℕ
 peakOf cap reach entry exit = min cap ((reach + entry + exit) / 2)
 
--- up: (p - entry) / (2 × a), rounded down
+-- up: (p - entry) / (2 × a) to the nearest, an exact half down (the law `up-nearest`)
 unfoldable pub upOf : (rise accel : ℕ) → ℕ
-upOf rise accel = unit * rise / (2 * accel)
+upOf rise accel = (unit * rise + accel - 1) / (2 * accel)
 
--- down: (p - exit) / (2 × a), rounded down
+-- down: (p - exit) / (2 × a) to the nearest, an exact half up (the law `down-nearest`)
 unfoldable pub downOf : (fall accel : ℕ) → ℕ
-downOf fall accel = unit * fall / (2 * accel)
+downOf fall accel = (unit * fall + accel) / (2 * accel)
 
 -- entry and exit squared speeds within a block's cap and reach, as a plan's are
 pub record Rampable (n : Numbers) (entry exit : ℕ) : Type 0 where

@@ -11,14 +11,16 @@ use machine::Numbers;
 use machine::Ramp;
 use machine::measure::UNIT;
 
-// The ramp. Only a plan's speeds meet what is required of entry and exit.
+// The ramp. Only a plan's speeds meet what is required of entry and exit. Up and down are the nearest whole numbers; an exact
+// half goes down in up and up in down, so that together they are never longer than the block.
 fn ramp(n: Numbers, entry: u64, exit: u64) -> Ramp
     requires { ⌜ Rampable n entry exit ⌝ }
     ensures { λ r. ⌜ r ≡ rampOf n entry exit ⌝ }
 {
     let peak = smaller(n.cap, (n.reach + entry + exit) / 2);
-    let up = UNIT * (peak - entry) / (2 * n.accel);
-    let down = UNIT * (peak - exit) / (2 * n.accel);
+    let accel = n.accel;
+    let up = (UNIT * (peak - entry) + accel - 1) / (2 * accel);
+    let down = (UNIT * (peak - exit) + accel) / (2 * accel);
     Ramp {
         peak: peak,
         up: up,

@@ -1,7 +1,8 @@
-//! Look-ahead speed planner for three-axis line blocks, after document 01 alone.
+//! Look-ahead speed planner for three-axis line blocks, after documents 01 and
+//! 02 alone.
 //!
 //! This package is the second implementation that the proved code is compared
-//! with. The numbers of a block are found by searching on document 01's own
+//! with. The numbers of a block are found by searching on the documents' own
 //! inequalities; `quick` holds the same numbers by division for the benchmark,
 //! and the tests compare the two.
 //!

@@ -2,7 +2,7 @@
 //!
 //! Each function gives what its namesake in `machine` finds by search.
 
-use crate::machine::{chord_bound, parts, ramp_to, torque_percent, torque_step};
+use crate::machine::{chord_bound, parts, torque_percent, torque_step};
 use crate::machine::{Block, Limits, Numbers, Ramp};
 use crate::plan::{highest, Course};
 
@@ -71,7 +71,28 @@ fn capped_quotient(bound: u128, divisor: u64, cap: u64) -> u64 {
 /// Ramp for a plan's entry and exit squared speeds, (µm/s)².
 pub fn ramp_of(numbers: &Numbers, entry: u64, exit: u64) -> Ramp {
     let peak = numbers.cap.min((numbers.reach + entry + exit) / 2);
-    ramp_to(peak, numbers, entry, exit)
+    let up = half_down(parts(peak - entry), numbers.accel);
+    let down = half_up(parts(peak - exit), numbers.accel);
+    Ramp {
+        peak,
+        up,
+        cruise: numbers.length - up - down,
+        down,
+    }
+}
+
+/// Length, µm, over which the squared speed changes by `change` (µm/s)², to
+/// the nearest whole number, an exact half down: with 1 less than the half of
+/// 2 × a added, only more than a half reaches the next whole number.
+fn half_down(change: u64, accel: u64) -> u64 {
+    (change + accel - 1) / (2 * accel)
+}
+
+/// Length, µm, over which the squared speed changes by `change` (µm/s)², to
+/// the nearest whole number, an exact half up: with the half of 2 × a added,
+/// a half reaches the next whole number.
+fn half_up(change: u64, accel: u64) -> u64 {
+    (change + accel) / (2 * accel)
 }
 
 /// Plan of checked blocks from rest to rest, (µm/s)².

@@ -55,6 +55,20 @@ fn one_block() {
     assert_eq!((ramp.up, ramp.cruise, ramp.down), (500, 0, 500));
 }
 
+/// From rest to rest along an odd length up and down are exact halves: that of
+/// up goes down and that of down goes up.
+#[test]
+fn odd_lengths() {
+    let ramp = |length| {
+        let ramp = given(&machine_m(), &block(length, 0, 0), 0, 0).ramp;
+        (ramp.up, ramp.cruise, ramp.down)
+    };
+    assert_eq!(ramp(1), (0, 0, 1));
+    assert_eq!(ramp(3), (1, 0, 2));
+    assert_eq!(ramp(5), (2, 0, 3));
+    assert_eq!(ramp(1_001), (500, 0, 501));
+}
+
 #[test]
 fn two_blocks() {
     let two = [block(1_000, 0, 0); 2];

@@ -13,8 +13,8 @@ use reference::trace::{pack_call, pack_trace, read_call, Call};
 
 const RIGHT_ANGLE: &str = "\
 mark length accel entry peak exit up cruise down
-7 1000 200000 0 201000000 2000000 502 1 497
-8 1000 200000 2000000 201000000 0 497 1 502
+7 1000 200000 0 201000000 2000000 502 0 498
+8 1000 200000 2000000 201000000 0 497 0 503
 ";
 
 #[test]

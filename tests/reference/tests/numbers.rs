@@ -1,5 +1,7 @@
 //! The numbers found by search are the largest, and those by division agree.
 
+use std::collections::BTreeMap;
+
 use reference::generate::{block_of_speed, edge_speeds, limits, path, Cause, Way, CAUSES, WAYS};
 use reference::machine::*;
 use reference::quick;
@@ -128,20 +130,61 @@ fn greatest_numbers() {
     assert!(corner.is_none_or(|q| q > 1_000_000_000_000));
 }
 
-/// A peak is the largest within cap and reach, and the three parts of a ramp
-/// add up to the length.
+/// Entry and exit squared speeds, (µm/s)², that a plan can give a block: at
+/// rest, at the most from rest, and near the cap, half a µm below it and one
+/// (µm/s)² to either side of that.
+fn plan_speeds(numbers: &Numbers) -> Vec<(u64, u64)> {
+    let (cap, most) = (numbers.cap, numbers.cap.min(numbers.reach));
+    let half = cap.saturating_sub(numbers.accel);
+    let mut speeds = vec![(0, 0), (most, 0), (0, most), (most, most), (most / 2, most)];
+    for near in [half.saturating_sub(1), half, half + 1] {
+        speeds.extend([(near, cap), (cap, near), (near, near)]);
+    }
+    speeds
+}
+
+/// Distances of the exact length change / (2 × a) from the whole number before
+/// `length`, from `length` and from the one after it, each × 2 × a.
+fn distances(change: u64, accel: u64, length: u64) -> [u128; 3] {
+    let whole = |step: i128| (length as i128 + step) * 2 * accel as i128;
+    [-1, 0, 1].map(|step| (parts(change) as i128).abs_diff(whole(step)))
+}
+
+/// Checks the lengths of a ramp: no whole number is nearer to the exact length
+/// than up or down is, of two as near up is the lower and down the higher, both
+/// are within the block, and cruise is the rest. Tells if up was an exact half,
+/// if down was, and if the two exact lengths fill the block.
+fn check_lengths(numbers: &Numbers, rise: u64, fall: u64, ramp: &Ramp) -> [bool; 3] {
+    let [before, up, after] = distances(rise, numbers.accel, ramp.up);
+    assert!(up < before && up <= after, "{numbers:?} {ramp:?}");
+    let up_is_half = up == after;
+    let [before, down, after] = distances(fall, numbers.accel, ramp.down);
+    assert!(down <= before && down < after, "{numbers:?} {ramp:?}");
+    let down_is_half = down == before;
+    assert!(ramp.up + ramp.down <= numbers.length);
+    assert_eq!(ramp.up + ramp.cruise + ramp.down, numbers.length);
+    let full = parts(rise + fall) == 2 * numbers.accel * numbers.length;
+    [up_is_half, down_is_half, full]
+}
+
+/// A peak is the largest within cap and reach, and the lengths are right. Up
+/// is an exact half or not, down is or not, and the two fill the block or not:
+/// each of these occurs but a single half in a full block, which cannot be.
 #[test]
 fn ramps() {
+    let mut met = BTreeMap::new();
     for (limits, [block, _]) in pairs(2_000) {
         let numbers = Numbers::of(&limits, &block);
-        let most = numbers.cap.min(numbers.reach);
-        for (entry, exit) in [(0, 0), (most, 0), (0, most), (most, most), (most / 2, most)] {
+        for (entry, exit) in plan_speeds(&numbers) {
             let ramp = ramp_of(&numbers, entry, exit);
             assert_eq!(quick::ramp_of(&numbers, entry, exit), ramp);
             assert!(ramp.peak >= entry && ramp.peak >= exit && ramp.peak <= numbers.cap);
             let over = 2 * (ramp.peak + 1) > numbers.reach + entry + exit;
             assert!(ramp.peak == numbers.cap || over);
-            assert_eq!(ramp.up + ramp.cruise + ramp.down, numbers.length);
+            let kind = check_lengths(&numbers, ramp.peak - entry, ramp.peak - exit, &ramp);
+            *met.entry(kind).or_insert(0) += 1;
         }
     }
+    let often = met.values().all(|times| *times > 1_000);
+    assert!(met.len() == 6 && often, "{met:?}");
 }

@@ -15,7 +15,7 @@ const ANSWERS: &str = include_str!("../../../crates/planreplay/stdout");
 /// Calls that planreplay runs at a time.
 const CHUNK_CALLS: usize = 300;
 
-/// The tape is the right-angle pair, whose listing document 01 gives.
+/// The tape is the right-angle pair, whose listing documents 01 and 02 give.
 #[test]
 fn stored_listing_is_that_of_the_tape() {
     assert!(TAPE == right_angle().pack());

@@ -1,6 +1,6 @@
 -- `ramps::ramp` meets its contract: the peak is neither below the entry nor below the exit.
 use mathlib.Core.Path.{ap, _∙_}
-use Prim.Native.Nat.{ℕ, _-_, _*_, _/_}
+use Prim.Native.Nat.{ℕ, _+_, _-_, _*_, _/_}
 use borrow.Author.Needs.{needs}
 use Rattle.machine.specs.declared.Numbers.{Numbers}
 use Rattle.machine.specs.declared.Ramp.{Ramp}
@@ -11,21 +11,18 @@ use Rattle.ramps.proofs.ramp.Tie as tie
 -- the ramp with a given peak
 abbrev ramp-at : Numbers → (entry exit peak : ℕ) → Ramp
 ramp-at n entry exit peak =
-    record {
-      peak = peak;
-      up = unit * (peak - entry) / (2 * n .accel);
-      cruise = n .length - unit * (peak - entry) / (2 * n .accel) - unit * (peak - exit) / (2 * n .accel);
-      down = unit * (peak - exit) / (2 * n .accel);
-    }
+    let up = (unit * (peak - entry) + n .accel - 1) / (2 * n .accel) in
+    let down = (unit * (peak - exit) + n .accel) / (2 * n .accel) in
+    record { peak = peak; up = up; cruise = n .length - up - down; down = down }
 
 returns : tie.Need-returns
 unfolding rampOf peakOf upOf downOf
 returns c =
-    let k = c .before .before .before .before in
+    let k = c .before .before in
     let a = k .before .before .args in
     let peak = k .smaller .result in
-    let down = unit * (peak - a .exit) / (2 * a .n .accel) in
-    (λ i. record { peak = peak; up = unit * (peak - a .entry) / (2 * a .n .accel); cruise = (c .less2 .ensures ∙ ap (λ (x : ℕ). x - down) (c .before .less .ensures)) i; down = down })
+    let r = ramp-at (a .n) (a .entry) (a .exit) peak in
+    (λ i. record { peak = peak; up = r .up; cruise = (c .less2 .ensures ∙ ap (λ (x : ℕ). x - r .down) (c .before .less .ensures)) i; down = r .down })
     ∙ ap (ramp-at (a .n) (a .entry) (a .exit)) (k .smaller .ensures)
 
 pub ramp-spec : {M : Type 1} → statement M
@@ -35,6 +32,9 @@ ramp-spec =
     (λ c. search needs)
     (λ c. search needs)
     (λ c κs. search needs)
+    (λ c. search needs)
+    (λ c. search needs)
+    (λ c. search needs)
     (λ c. search needs)
     (λ c. search needs)
     (λ c. search needs)

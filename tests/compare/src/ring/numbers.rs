@@ -99,8 +99,8 @@ pub fn ramp_between(numbers: &Numbers, entry: u64, exit: u64) -> Ramp {
         };
     }
     let peak = cap.min((reach + entry + exit) / 2);
-    let up = peak.saturating_sub(entry) / (2 * accel);
-    let down = peak.saturating_sub(exit) / (2 * accel);
+    let up = (peak.saturating_sub(entry) + accel - 1) / (2 * accel);
+    let down = (peak.saturating_sub(exit) + accel) / (2 * accel);
     let cruise = length.saturating_sub(up).saturating_sub(down);
     Ramp {
         peak,

@@ -11,4 +11,4 @@ pub use numbers::{
     acceleration_of, block_cap, chord_bound, length_of, parts, reach_of, root_of, speed_of,
     torque_percent, torque_step, Numbers,
 };
-pub use ramp::{given, ramp_of, ramp_to, Given, Ramp};
+pub use ramp::{given, ramp_of, Given, Ramp};

@@ -46,17 +46,10 @@ pub fn given(limits: &Limits, block: &Block, entry: u64, exit: u64) -> Given {
     }
 }
 
-/// Ramp for a plan's entry and exit squared speeds: the peak is the largest p
-/// not above the block cap with 2 × p − entry − exit ≤ b.
+/// Ramp for a plan's entry and exit squared speeds, (µm/s)². What up and down
+/// leave of the length is run at the peak.
 pub fn ramp_of(numbers: &Numbers, entry: u64, exit: u64) -> Ramp {
-    let speeds = entry as u128 + exit as u128;
-    let lawful = |p: u128| p <= numbers.cap as u128 && 2 * p <= numbers.reach as u128 + speeds;
-    ramp_to(largest(lawful) as u64, numbers, entry, exit)
-}
-
-/// Ramp up from the entry to a peak and down to the exit, all (µm/s)²; what
-/// is left of the length is run at the peak.
-pub fn ramp_to(peak: u64, numbers: &Numbers, entry: u64, exit: u64) -> Ramp {
+    let peak = peak_of(numbers, entry, exit);
     let up = ramp_up(peak - entry, numbers.accel);
     let down = ramp_down(peak - exit, numbers.accel);
     Ramp {
@@ -67,12 +60,29 @@ pub fn ramp_to(peak: u64, numbers: &Numbers, entry: u64, exit: u64) -> Ramp {
     }
 }
 
-/// Length needed to gain `rise` (µm/s)² of squared speed, rounded down.
-fn ramp_up(rise: u64, accel: u64) -> u64 {
-    parts(rise) / (2 * accel)
+/// Peak, (µm/s)²: the largest p not above the block cap with
+/// 2 × p − entry − exit ≤ b.
+fn peak_of(numbers: &Numbers, entry: u64, exit: u64) -> u64 {
+    let speeds = entry as u128 + exit as u128;
+    let lawful = |p: u128| p <= numbers.cap as u128 && 2 * p <= numbers.reach as u128 + speeds;
+    largest(lawful) as u64
 }
 
-/// Length needed to lose `fall` (µm/s)² of squared speed, rounded down.
+/// Length, µm, needed to gain `rise` (µm/s)² of squared speed: rise / (2 × a)
+/// to the nearest whole number, an exact half down. It is the largest q less
+/// than a half above the quotient, q × 2 × a < rise + a.
+fn ramp_up(rise: u64, accel: u64) -> u64 {
+    let a = accel as u128;
+    largest(|q| q * 2 * a < parts(rise) as u128 + a) as u64
+}
+
+/// Length, µm, needed to lose `fall` (µm/s)² of squared speed: fall / (2 × a)
+/// to the nearest whole number, an exact half up. It is the largest q at most
+/// a half above the quotient, q × 2 × a ≤ fall + a.
+///
+/// Where the two quotients fill the block, two exact halves are one µm, which
+/// down gets and up does not: so the two never exceed the block.
 fn ramp_down(fall: u64, accel: u64) -> u64 {
-    parts(fall) / (2 * accel)
+    let a = accel as u128;
+    largest(|q| q * 2 * a <= parts(fall) as u128 + a) as u64
 }
