@@ -1,8 +1,8 @@
--- A quotient by an even number with half the divisor added, or one less than half of it, is the nearest whole number, an exact half
--- up or down. From the laws of division.
+-- The whole number nearest to a quotient: how it is computed, that there is one only, and that of two that make up a whole one may round an
+-- exact half down and the other up. From the laws of products and division.
 use mathlib.Core.Path.{_≡_, sym}
-use Prim.Native.Nat.{ℕ, _+_, _-_, _*_, _/_, _≤_, _<_}
-use native.Mathlib.Nat.{le-antisymm, lt-of-not-le, add-mul, mul-le-mul-right, div-mul-le-self, lt-div-mul-add}
+use Prim.Native.Nat.{ℕ, zero, suc, _+_, _-_, _*_, _/_, _≤_, _<_}
+use native.Mathlib.Nat.{le-antisymm, lt-of-not-le, not-le-of-lt, lt-suc-self, zero-mul, suc-mul, add-mul, mul-le-mul-right, lt-of-mul-lt-mul-right, div-mul-le-self, lt-div-mul-add}
 use native.Mathlib.Decide.{decLe}
 use native.Mathlib.Omega.{arith}
 use Rattle.arith.specs.Nearest.{distance, Nearest, NearestHalfDown, NearestHalfUp}
@@ -21,7 +21,7 @@ module _ (n d q : ℕ) (above : 2 * (q * d) ≤ 2 * n + d) (below : 2 * n ≤ 2 
       up (no g) h = omega (arith, further d q p (lt-of-not-le g))
 
 -- less than half of d above n, it is the lower one of two that are equally near
-pub half-down : (n d q : ℕ) → 2 * (q * d) < 2 * n + d → 2 * n ≤ 2 * (q * d) + d → NearestHalfDown n d q
+half-down : (n d q : ℕ) → 2 * (q * d) < 2 * n + d → 2 * n ≤ 2 * (q * d) + d → NearestHalfDown n d q
 half-down n d q above below =
     record {
       none-nearer = nearest-within n d q (omega arith) below;
@@ -29,7 +29,7 @@ half-down n d q above below =
     }
 
 -- less than half of d below n, the higher one
-pub half-up : (n d q : ℕ) → 2 * (q * d) ≤ 2 * n + d → 2 * n < 2 * (q * d) + d → NearestHalfUp n d q
+half-up : (n d q : ℕ) → 2 * (q * d) ≤ 2 * n + d → 2 * n < 2 * (q * d) + d → NearestHalfUp n d q
 half-up n d q above below =
     record {
       none-nearer = nearest-within n d q above (omega arith);
@@ -54,3 +54,20 @@ pub nearest-one : {Preferred : (q p : ℕ) → Type 0} → ((p q : ℕ) → Pref
 nearest-one prefers {n} {d} {p} {q} h g =
     let same = le-antisymm (h .none-nearer q) (g .none-nearer p) in
     prefers p q (h .half q (sym same)) (g .half p same)
+
+-- it is at most half of d above n, and less where a half goes down
+nearest-below : {Preferred : (q p : ℕ) → Type 0} (n d q : ℕ) → 0 < d → Nearest Preferred n d q → 2 * (q * d) ≤ 2 * n + d
+nearest-below n d zero above h = omega (arith, zero-mul d)
+nearest-below n d (suc q) above h = omega (arith, h .none-nearer q, suc-mul q d)
+
+half-down-below : (n d q : ℕ) → 0 < d → NearestHalfDown n d q → 2 * (q * d) < 2 * n + d
+half-down-below n d zero above h = omega (arith, zero-mul d)
+half-down-below n d (suc q) above h =
+    lt-of-not-le (λ e. not-le-of-lt (lt-suc-self q) (h .half q (omega (arith, nearest-below n d (suc q) above h, suc-mul q d))))
+
+-- two parts of a whole, one with an exact half down and one with an exact half up, are together not longer than it
+pub halves-fit : (n m d p q whole : ℕ) → 0 < d → NearestHalfDown n d p → NearestHalfUp m d q → n + m ≤ whole * d → p + q ≤ whole
+halves-fit n m d p q whole above down up fit =
+    let less : p + q < whole + 1 = lt-of-mul-lt-mul-right d
+    (omega (arith, half-down-below n d p above down, nearest-below m d q above up, add-mul p q d, add-mul whole 1 d)) in
+    omega arith

@@ -2,9 +2,9 @@
 -- not longer than the block, so the three lengths make it up. From the laws of division.
 use mathlib.Core.Path.{_≡_}
 use Prim.Native.Nat.{ℕ, _+_, _-_, _*_, _/_, _^_, _≤_, _<_}
-use native.Mathlib.Nat.{le-antisymm, le-min, min-le-left, min-le-right, div-mul-le-self, mul-div-le, mul-le-mul, mul-le-mul-left, lt-of-mul-lt-mul-right, add-mul, mul-add, mul-comm}
+use native.Mathlib.Nat.{le-antisymm, le-min, min-le-left, min-le-right, mul-div-le, mul-le-mul, mul-le-mul-left, mul-add, mul-comm}
 use native.Mathlib.Omega.{arith}
-use Rattle.arith.proofs.NearestLaws.{half-down-quotient, half-up-quotient, nearest-one}
+use Rattle.arith.proofs.NearestLaws.{half-down-quotient, half-up-quotient, nearest-one, halves-fit}
 use Rattle.machine.specs.Checks.{movesOf, blockRefusal}
 use Rattle.machine.specs.Numbers.{unit, lengthOf, accelOf, reachFrom, reachOf, blockCap, numbersOf, peakOf, upOf, downOf, Rampable, rampOf}
 use Rattle.machine.specs.Meaning.{Largest, PeakFits, UpIs, DownIs}
@@ -45,35 +45,20 @@ up-one rise accel h up n = nearest-one (λ p q. le-antisymm) n (up-nearest rise 
 pub down-one : (fall accel : ℕ) → 0 < accel → (down : ℕ) → DownIs fall accel down → down ≡ downOf fall accel
 down-one fall accel h down n = nearest-one (λ p q a b. le-antisymm b a) n (down-nearest fall accel h)
 
--- two lengths of quotients by 2 × a, of which one drops an exact half and one raises it, fit into the block where the speeds change by no
--- more than the reach
-nearest-fit : (u a length reach rise fall : ℕ) → 0 < a → u * reach ≤ 2 * a * length → rise + fall ≤ reach
-    → (u * rise + a - 1) / (2 * a) + (u * fall + a) / (2 * a) ≤ length
-nearest-fit u a length reach rise fall h e s =
-    let up = (u * rise + a - 1) / (2 * a) in
-    let down = (u * fall + a) / (2 * a) in
-    let less : up + down < length + 1 = lt-of-mul-lt-mul-right (2 * a)
-    (omega (
-      arith,
-      add-mul up down (2 * a),
-      add-mul length 1 (2 * a),
-      div-mul-le-self (u * rise + a - 1) (2 * a),
-      div-mul-le-self (u * fall + a) (2 * a),
-      mul-add u rise fall,
-      mul-le-mul-left u s,
-      mul-comm length (2 * a),
-    )) in
-    omega arith
-
 -- up and down together are not longer than the block
 pub ramp-within : (n : Numbers) (entry exit : ℕ) → Rampable n entry exit → n .reach ≡ reachFrom (n .accel) (n .length)
     → rampOf n entry exit .up + rampOf n entry exit .down ≤ n .length
-unfolding rampOf upOf downOf reachFrom
+unfolding rampOf reachFrom
 ramp-within n entry exit r e =
     let peak = peakOf (n .cap) (n .reach) entry exit in
-    nearest-fit unit (n .accel) (n .length) (n .reach) (peak - entry) (peak - exit) (r .accel-above)
-    (rw e (mul-div-le (2 * n .accel * n .length) unit))
-    (omega (arith, peak-largest (n .cap) (n .reach) entry exit .has .1, peak-above n entry exit r))
+    let rise = peak - entry in
+    let fall = peak - exit in
+    let change : rise + fall ≤ n .reach = omega (arith, peak-largest (n .cap) (n .reach) entry exit .has .1, peak-above n entry exit r) in
+    let reach : unit * n .reach ≤ 2 * n .accel * n .length = rw e (mul-div-le (2 * n .accel * n .length) unit) in
+    halves-fit (unit * rise) (unit * fall) (2 * n .accel) _ _ (n .length) (omega (arith, r .accel-above))
+    (up-nearest rise (n .accel) (r .accel-above))
+    (down-nearest fall (n .accel) (r .accel-above))
+    (omega (arith, mul-add unit rise fall, mul-le-mul-left unit change, reach, mul-comm (n .length) (2 * n .accel)))
 
 -- so up, cruise and down make up the block
 pub ramp-fills : (n : Numbers) (entry exit : ℕ) → Rampable n entry exit → n .reach ≡ reachFrom (n .accel) (n .length)
