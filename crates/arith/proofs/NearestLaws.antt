@@ -1,5 +1,5 @@
--- The whole number nearest to a quotient: how it is computed, that there is one only, and that of two that make up a whole one may round an
--- exact half down and the other up. From the laws of products and division.
+-- The whole number nearest to a quotient: how it is computed, that there is one only, and that two parts still fit the whole where one
+-- rounds an exact half down and the other rounds it up. From the laws of products and division.
 use mathlib.Core.Path.{_≡_, sym}
 use Prim.Native.Nat.{ℕ, zero, suc, _+_, _-_, _*_, _/_, _≤_, _<_}
 use native.Mathlib.Nat.{le-antisymm, lt-of-not-le, not-le-of-lt, lt-suc-self, zero-mul, suc-mul, add-mul, mul-le-mul-right, lt-of-mul-lt-mul-right, div-mul-le-self, lt-div-mul-add}
@@ -67,7 +67,7 @@ half-down-below n d (suc q) above h =
 
 -- two parts of a whole, one with an exact half down and one with an exact half up, are together not longer than it
 pub halves-fit : (n m d p q whole : ℕ) → 0 < d → NearestHalfDown n d p → NearestHalfUp m d q → n + m ≤ whole * d → p + q ≤ whole
-halves-fit n m d p q whole above down up fit =
+halves-fit n m d p q whole above lower higher fit =
     let less : p + q < whole + 1 = lt-of-mul-lt-mul-right d
-    (omega (arith, half-down-below n d p above down, nearest-below m d q above up, add-mul p q d, add-mul whole 1 d)) in
+    (omega (arith, half-down-below n d p above lower, nearest-below m d q above higher, add-mul p q d, add-mul whole 1 d)) in
     omega arith

@@ -1,18 +1,18 @@
 -- `ramps::ramp` meets its contract: the peak is neither below the entry nor below the exit.
 use mathlib.Core.Path.{ap, _∙_}
-use Prim.Native.Nat.{ℕ, _+_, _-_, _*_, _/_}
+use Prim.Native.Nat.{ℕ, _-_}
 use borrow.Author.Needs.{needs}
 use Rattle.machine.specs.declared.Numbers.{Numbers}
 use Rattle.machine.specs.declared.Ramp.{Ramp}
-use Rattle.machine.specs.Numbers.{unit, peakOf, upOf, downOf, rampOf}
+use Rattle.machine.specs.Numbers.{peakOf, upOf, downOf, rampOf}
 use Rattle.ramps.proofs.ramp.Statement.{statement}
 use Rattle.ramps.proofs.ramp.Tie as tie
 
 -- the ramp with a given peak
 abbrev ramp-at : Numbers → (entry exit peak : ℕ) → Ramp
 ramp-at n entry exit peak =
-    let up = (unit * (peak - entry) + n .accel - 1) / (2 * n .accel) in
-    let down = (unit * (peak - exit) + n .accel) / (2 * n .accel) in
+    let up = upOf (peak - entry) (n .accel) in
+    let down = downOf (peak - exit) (n .accel) in
     record { peak = peak; up = up; cruise = n .length - up - down; down = down }
 
 returns : tie.Need-returns
