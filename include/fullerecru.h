@@ -128,9 +128,9 @@ uint64_t fullerecru_add(uint64_t memory[FULLERECRU_NUMBERS], int64_t x, int64_t 
  * entry, exit and peak, squared speeds, (µm/s)²; and the ramp: the lengths run speeding up, at
  * the peak and braking, µm, which add up to the length. The length is rounded down to whole µm. The
  * lengths of speeding up and of braking go to the nearest µm, an exact half down for speeding up and
- * up for braking; the part at the peak is what they leave of the length. So they are at most half a µm
- * off what the squared speeds say, and the part at the peak less than 1 µm. A servo loop interpolates
- * from entry, peak, exit and acceleration.
+ * up for braking; the part at the peak is what they leave of the length. So they are off what the
+ * squared speeds say by at most half a µm, and the part at the peak by less than 1 µm. A servo loop
+ * interpolates from entry, peak, exit and acceleration.
  *
  * Refuses by 8. Accepted, it writes the memory, moves and numbers. */
 uint64_t fullerecru_take(uint64_t memory[FULLERECRU_NUMBERS], int64_t moves[FULLERECRU_MOVES],

@@ -81,6 +81,8 @@ table =
     ∷ (firstRamp east [] gives 200_000_000 ∷ 500 ∷ 0 ∷ 500 ∷ [])
     -- One block (1001,0,0), Q-2: up and down are 500.5, a half that goes down in up and up in down
     ∷ (firstRamp (block (pos 1_001) (pos 0) (pos 0)) [] gives 200_200_000 ∷ 500 ∷ 0 ∷ 501 ∷ [])
+    -- (1000,0,0) then (0,1000,0), Q-2: the first block's ramp is 502, 0, 498
+    ∷ (firstRamp east (north ∷ []) gives 201_000_000 ∷ 502 ∷ 0 ∷ 498 ∷ [])
     -- Two blocks (1000,0,0): plan 0, 400,000,000, 0
     ∷ (plan (east ∷ east ∷ []) gives 0 ∷ 400_000_000 ∷ 0 ∷ [])
     -- Add 64 is taken, 65 is refused by 7; after one take it is accepted

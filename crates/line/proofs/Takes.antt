@@ -13,11 +13,12 @@ use Rattle.profile.proofs.Highest.{plan-lawful, plan-highest}
 use Rattle.profile.proofs.Kept.{braked-taken}
 use Rattle.machine.specs.Labels.{noBlock}
 use Rattle.machine.specs.Line.{spansOf}
+use Rattle.machine.specs.Meaning.{RampIs}
 use Rattle.machine.specs.Numbers.{numbersOf, reachFrom, peakOf, rampOf, Rampable}
 use Rattle.machine.specs.declared.Block.{Block}
 use Rattle.machine.specs.declared.Machine.{Machine}
 use Rattle.machine.proofs.Rampables.{rampable-holds}
-use Rattle.machine.proofs.RampLaws.{numbers-rampable, ramp-fills}
+use Rattle.machine.proofs.RampLaws.{numbers-rampable, ramp-is}
 use Rattle.line.specs.declared.Given.{Given}
 use Rattle.line.specs.Answers.{gave, givenOf, givenBetween, answerBy}
 use Rattle.line.specs.Blocks.{Line, Call, add, take, addRefusal, takeAnswer, takeAfter, lineAnswer, lineAfter}
@@ -73,7 +74,11 @@ module _ {r : Ring} {m : Machine} {committed : ℕ} {a : Block} {rest : List Blo
       (λ i. givenBetween (h .placed .block 0 (omega arith) i) (h .placed .numbers 0 (omega arith) i) (h .committed i) (exit-right i))
       ∙ rw (plan-first committed spans (h .brakes), rampable-holds (numbersOf m a) committed exit ramped)
 
-  -- with the speeds of the line's plan, within its cap, and a ramp that is as long as the block
+  -- with the ramp between the plan's first two speeds,
+  ramp-right : RampIs (numbersOf m a) (numberAt (planOf committed spans) 0) exit (rampOf (numbersOf m a) (numberAt (planOf committed spans) 0) exit)
+  ramp-right = rw (plan-first committed spans (h .brakes)) (ramp-is (numbersOf m a) committed exit ramped (reach-own m a))
+
+  -- which are the line's and within the block's cap
   given-from : GivenFrom (lineOf m committed (a ∷ rest)) (givenOf m a (numberAt (planOf committed spans) 0) exit)
   unfolding givenOf numbersOf rampOf peakOf
   given-from = record {
@@ -81,7 +86,8 @@ module _ {r : Ring} {m : Machine} {committed : ℕ} {a : Block} {rest : List Blo
     entry = refl;
     exit = refl;
     capped = (omega (arith, plan-first committed spans (h .brakes), ramped .entry-capped), ramped .exit-capped, omega arith);
-    fills = rw (plan-first committed spans (h .brakes)) (ramp-fills (numbersOf m a) committed exit ramped (reach-own m a));
+    ramp = ramp-right;
+    fills = ramp-right .fills;
   }
 
   -- block k of the rest was block k + 1

@@ -5,7 +5,8 @@ use Prim.Native.Nat.{ℕ, _+_, _≤_}
 use lib.ListN.{length, take, getD}
 use Rattle.profile.specs.Line.{numberAt, Highest}
 use Rattle.machine.specs.Line.{spansOf}
-use Rattle.machine.specs.Numbers.{blockCap}
+use Rattle.machine.specs.Meaning.{RampIs}
+use Rattle.machine.specs.Numbers.{blockCap, numbersOf}
 use Rattle.machine.specs.declared.Machine.{Machine}
 use Rattle.line.specs.Answers.{Answer, accepted, gave, refused}
 use Rattle.line.specs.Blocks.{Line, Call, freshLine, linePlan, lineAnswers, lineAfterAll}
@@ -16,12 +17,13 @@ abbrev pub PlanHighest : Line → Type 0
 PlanHighest line = Highest (line .committed) (spansOf (line .machine) (line .blocks)) (linePlan line)
 
 -- a block given out of a line: entry and exit are the first two numbers of its highest lawful profile; no squared speed of the block is
--- above its cap; and the ramp is as long as the block
+-- above its cap; the ramp is the one between these two, up and down to the nearest; and it is as long as the block
 pub record GivenFrom (line : Line) (g : Given) : Type 0 where
   pub highest : PlanHighest line
   pub entry : g .entry ≡ numberAt (linePlan line) 0
   pub exit : g .exit ≡ numberAt (linePlan line) 1
   pub capped : (g .entry ≤ blockCap (line .machine .limits) (g .block)) × (g .exit ≤ blockCap (line .machine .limits) (g .block)) × (g .ramp .peak ≤ blockCap (line .machine .limits) (g .block))
+  pub ramp : RampIs (numbersOf (line .machine) (g .block)) (g .entry) (g .exit) (g .ramp)
   pub fills : g .ramp .up + g .ramp .cruise + g .ramp .down ≡ g .length
 
 -- the plan of a line shown: a lent list that is one longer than its blocks is filled with its highest lawful profile; any other

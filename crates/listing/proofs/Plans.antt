@@ -1,13 +1,14 @@
--- The lines of an accepted tape's blocks: each is the line of the block as it is listed, and up, cruise and down make up its length. From the laws of an
--- accepted tape's plan and of ramps.
+-- The lines of an accepted tape's blocks: each is the line of the block as it is listed, with the ramp between its two speeds, and up, cruise and down
+-- make up its length. From the laws of an accepted tape's plan and of ramps.
 use mathlib.Core.Path.{_≡_, refl}
 use mathlib.Core.List.{List}
 use Prim.Native.Nat.{ℕ, _+_, _<_}
 use Rattle.profile.specs.Line.{numberAt}
+use Rattle.machine.specs.Meaning.{RampIs}
 use Rattle.machine.specs.Numbers.{Rampable, numbersOf}
 use Rattle.machine.specs.declared.Block.{Block}
 use Rattle.machine.specs.declared.Machine.{Machine}
-use Rattle.machine.proofs.RampLaws.{ramp-fills}
+use Rattle.machine.proofs.RampLaws.{ramp-is}
 use Rattle.machine.proofs.Rampables.{rampable-holds}
 use Rattle.line.specs.Answers.{givenBetween, givenOf}
 use Rattle.tape.specs.Tape.{recordAt, recordsIn}
@@ -35,7 +36,12 @@ module _ (s : List ℕ) (passed : tapeRefusal s ≡ 0) where
       → givenText (givenBetween (marked (block k .mark)) (numbersOf (tapeMachine s) (block k)) (speed k) (speed (k + 1))) ≡ givenText (rowOf s k)
   row-between k h = between-given (tapeMachine s) (block k) (speed k) (speed (k + 1)) (accepted-ramps s passed k h)
 
+  -- the ramp of each is the one between its speeds, up and down to the nearest
+  pub rows-ramp : (k : ℕ) → k < recordsIn s → RampIs (numbersOf (tapeMachine s) (block k)) (speed k) (speed (k + 1)) (rowOf s k .ramp)
+  unfolding givenOf numbersOf
+  rows-ramp k h = ramp-is (numbersOf (tapeMachine s) (block k)) (speed k) (speed (k + 1)) (accepted-ramps s passed k h) refl
+
   -- up, cruise and down make up the block
   pub rows-fill : (k : ℕ) → k < recordsIn s → rowOf s k .ramp .up + rowOf s k .ramp .cruise + rowOf s k .ramp .down ≡ rowOf s k .length
   unfolding givenOf numbersOf
-  rows-fill k h = ramp-fills (numbersOf (tapeMachine s) (block k)) (speed k) (speed (k + 1)) (accepted-ramps s passed k h) refl
+  rows-fill k h = rows-ramp k h .fills

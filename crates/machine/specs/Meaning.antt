@@ -1,7 +1,7 @@
 -- What document 01 says of the numbers where it says "the largest whole number with ...", in its own inequalities, and Q-2 where it
 -- says "nearest". The definitions of `Numbers` compute by roots and quotients; the laws of `proofs/` say that they are these numbers.
 use mathlib.Core.Path.{_≡_}
-use Prim.Native.Nat.{ℕ, _+_, _*_, _≤_, _<_}
+use Prim.Native.Nat.{ℕ, _+_, _-_, _*_, _≤_, _<_}
 use lib.IntN.{ℤ, pos, _-ℤ_}
 use lib.Signed.{_≤ℤ_}
 use Rattle.arith.specs.Nearest.{NearestHalfDown, NearestHalfUp}
@@ -10,6 +10,8 @@ use Rattle.machine.specs.Numbers.{CornerCap, none, upTo, unit, lengthOf,
 use Rattle.machine.specs.declared.Axes.{Axes}
 use Rattle.machine.specs.declared.Limits.{Limits}
 use Rattle.machine.specs.declared.Block.{Block}
+use Rattle.machine.specs.declared.Numbers.{Numbers}
+use Rattle.machine.specs.declared.Ramp.{Ramp}
 
 -- q is the largest whole number that has the property
 pub record Largest (Has : ℕ → Type 0) (q : ℕ) : Type 0 where
@@ -65,3 +67,13 @@ UpIs rise accel = NearestHalfDown (unit * rise) (2 * accel)
 -- the length of braking by `fall`, (µm/s)²: the nearest to fall / (2 × a), an exact half up
 abbrev pub DownIs : (fall accel down : ℕ) → Type 0
 DownIs fall accel = NearestHalfUp (unit * fall) (2 * accel)
+
+-- the ramp of a block with these numbers between two squared speeds: up from the entry to the largest peak, down from it to the exit, and
+-- the rest of the length between them (the law `ramp-one` says that there is one such ramp only)
+pub record RampIs (n : Numbers) (entry exit : ℕ) (r : Ramp) : Type 0 where
+  pub peak-is : Largest (PeakFits (n .cap) (n .reach) entry exit) (r .peak)
+  pub entry-below : entry ≤ r .peak
+  pub exit-below : exit ≤ r .peak
+  pub up-is : UpIs (r .peak - entry) (n .accel) (r .up)
+  pub down-is : DownIs (r .peak - exit) (n .accel) (r .down)
+  pub fills : r .up + r .cruise + r .down ≡ n .length

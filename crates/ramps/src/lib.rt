@@ -11,8 +11,8 @@ use machine::Numbers;
 use machine::Ramp;
 use machine::measure::UNIT;
 
-// The ramp. Only a plan's speeds meet what is required of entry and exit. Up and down are the nearest whole numbers; an exact
-// half goes down in up and up in down, so that together they are never longer than the block.
+// The ramp. Only a plan's speeds meet what is required of entry and exit. Half of the divisor, or one less, is added before a
+// division: so up is the nearest with an exact half down, and down the nearest with an exact half up.
 fn ramp(n: Numbers, entry: u64, exit: u64) -> Ramp
     requires { ⌜ Rampable n entry exit ⌝ }
     ensures { λ r. ⌜ r ≡ rampOf n entry exit ⌝ }
