@@ -22,7 +22,9 @@ fn given<P: LookAhead>(limits: &Limits, blocks: &[Block]) -> Vec<Given> {
 /// Up, cruise and down of each block, µm, on machine M.
 fn ramps(blocks: &[Block]) -> Vec<[u64; 3]> {
     let given = given::<Planner>(&machine_m(), blocks);
-    let ramps = given.iter().map(|g| [g.ramp.up, g.ramp.cruise, g.ramp.down]);
+    let ramps = given
+        .iter()
+        .map(|g| [g.ramp.up, g.ramp.cruise, g.ramp.down]);
     ramps.collect()
 }
 
@@ -36,13 +38,24 @@ fn a_half_goes_down_for_up_and_up_for_down() {
     assert_eq!(ramps(&[block(1_001, 0, 0)]), [[500, 0, 501]]);
 }
 
-/// One to four blocks along one axis, straight on, of any lengths up to 2 mm.
-fn straight_on(rng: &mut Rng) -> Vec<Block> {
-    let (axis, feed) = (rng.below(3) as usize, rng.spread(1, 1_000_000));
-    let count = rng.within(1, 4);
-    let blocks = (0..count).map(|mark| {
+/// Limits, and one to four blocks along one axis, straight on: any feed and up
+/// to 2 mm each, or an odd multiple of an odd acceleration as the feed, which is
+/// reached after a number of µm and a half, and up to 10 mm each.
+fn straight_on(rng: &mut Rng) -> (Limits, Vec<Block>) {
+    let (limits, feed, longest) = if rng.once_in(2) {
+        (limits(rng), rng.spread(1, 1_000_000), 2_000)
+    } else {
+        let [accel, times] = [rng.below(50), rng.below(5)].map(|k| 2 * k + 1);
+        let weak = Limits {
+            accel: [accel; 3],
+            ..machine_m()
+        };
+        (weak, times * accel, 10_000)
+    };
+    let axis = rng.below(3) as usize;
+    let blocks = (0..rng.within(1, 4)).map(|mark| {
         let mut moves = [0; 3];
-        moves[axis] = rng.spread(1, 2_000) as i64;
+        moves[axis] = rng.spread(1, longest) as i64;
         Block {
             moves,
             feed,
@@ -50,7 +63,7 @@ fn straight_on(rng: &mut Rng) -> Vec<Block> {
             mark,
         }
     });
-    blocks.collect()
+    (limits, blocks.collect())
 }
 
 /// Whether a change of squared speed, (µm/s)², takes a number of µm and a half.
@@ -58,22 +71,22 @@ fn is_half(change: u64, accel: u64) -> bool {
     change % (2 * accel) == accel
 }
 
+/// Up alone is an exact half, down alone is, and both are, each often.
 #[test]
 fn exact_halves_are_rounded_alike() {
-    let (mut ups, mut downs, mut count) = (0, 0, 0);
+    let mut met = [0; 4];
     for seed in seeds(20_000) {
         let _trying = Trying::seed(seed);
-        let mut rng = Rng::new(seed);
-        let (limits, blocks) = (limits(&mut rng), straight_on(&mut rng));
+        let (limits, blocks) = straight_on(&mut Rng::new(seed));
         let found = given::<Planner>(&limits, &blocks);
         let input = || format!("{limits:?} {blocks:?}");
         same(seed, input, &found, &given::<Line>(&limits, &blocks));
         for g in found {
-            ups += usize::from(is_half(g.ramp.peak - g.entry, g.accel));
-            downs += usize::from(is_half(g.ramp.peak - g.exit, g.accel));
-            count += 1;
+            let up = is_half(g.ramp.peak - g.entry, g.accel);
+            let down = is_half(g.ramp.peak - g.exit, g.accel);
+            met[usize::from(up) + 2 * usize::from(down)] += 1;
         }
     }
-    assert!(ups > 2_000 && downs > 2_000, "{ups} and {downs} of {count}");
-    report(ups + downs, "ramps of a number of µm and a half");
+    assert!(met.iter().all(|times| *times > 1_000), "{met:?}");
+    report(met[1..].iter().sum(), "ramps of a number of µm and a half");
 }
