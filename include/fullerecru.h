@@ -17,7 +17,7 @@
  * What the model leaves open: the acceleration limits hold along each block; at a junction the
  * velocity may step by as much as the corner jump J, and short chords make many such steps. On a
  * circle whose chords come without their radius, v²/R can pass the acceleration limits many times.
- * With the radius, v²/R is at most 8 × E / T² (chord tolerance E, tick T). Give each chord its
+ * With the radius, v²/R is below 8 × E / T² (chord tolerance E, tick T). Give each chord its
  * radius, and choose 8 × E / T² at most the acceleration limit and J at most acceleration limit ×
  * tick. Between moves of a few µm a corner may have no cap, since lengths are rounded down.
  *

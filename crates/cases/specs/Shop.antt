@@ -12,9 +12,13 @@ use Rattle.machine.specs.declared.Block.{Block}
 abbrev pub every : ℕ → Axes
 every n = record { x = n; y = n; z = n }
 
+-- machine M's limits with another chord tolerance E, µm, and tick T, µs
+abbrev pub limitsWith : (chord tick : ℕ) → Limits
+limitsWith chord tick = record { accel = every 200_000; speed = every 1_000_000; jump = 2_000; chord = chord; tick = tick }
+
 -- machine M's limits: each acceleration limit 200,000, each speed limit 1,000,000, J 2,000, E 1, T 2,000
 abbrev pub limitsM : Limits
-limitsM = record { accel = every 200_000; speed = every 1_000_000; jump = 2_000; chord = 1; tick = 2_000 }
+limitsM = limitsWith 1 2_000
 
 -- machine M
 abbrev pub machineM : Machine

@@ -13,7 +13,7 @@ use Rattle.machine.specs.declared.Block.{Block}
 use Rattle.machine.specs.declared.Ramp.{Ramp}
 use Rattle.line.specs.Answers.{answerNumber}
 use Rattle.line.specs.Blocks.{Call, add, take, freshLine, lineAnswers}
-use Rattle.cases.specs.Shop.{limitsM, machineM, curved, block}
+use Rattle.cases.specs.Shop.{limitsM, limitsWith, machineM, curved, block}
 
 -- a case: the numbers that are computed, and those of the paper
 pub record Case : Type 0 where
@@ -74,8 +74,15 @@ table =
     ∷ (capNumbers (cornerCap limitsM east west) gives 1_000_000 ∷ [])
     -- (1000,0,0) twice, straight on: none
     ∷ (capNumbers (cornerCap limitsM east east) gives [])
-    -- Radius 1,000 gives a chord cap of 2,000,000,000; at feed 20,000 the block cap is still 400,000,000
-    ∷ (chordCap limitsM 1_000 ∷ blockCap limitsM (curved 1_000 (pos 1_000) (pos 0) (pos 0)) ∷ [] gives 2_000_000_000 ∷ 400_000_000 ∷ [])
+    -- Radius 1,000 gives a chord cap of 1,999,000,000 (Q-4); at feed 20,000 the block cap is still 400,000,000
+    ∷ (chordCap limitsM 1_000 ∷ blockCap limitsM (curved 1_000 (pos 1_000) (pos 0) (pos 0)) ∷ [] gives 1_999_000_000 ∷ 400_000_000 ∷ [])
+    -- Radius 1 gives 1,000,000 (Q-4), and the block cap is that: in a tick the circle's diameter
+    ∷ (chordCap limitsM 1 ∷ blockCap limitsM (curved 1 (pos 1_000) (pos 0) (pos 0)) ∷ [] gives 1_000_000 ∷ 1_000_000 ∷ [])
+    -- By Q-4's formula: radii 2, 3 and 10,000,000; with E 1,000 and T 100 radii 1, 999 and 10,000,000; with E 1 radius 1 at T 10,000, and
+    -- at T 3,000, where the quotient is rounded down
+    ∷ (map (chordCap limitsM) (2 ∷ 3 ∷ 10_000_000 ∷ []) gives 3_000_000 ∷ 5_000_000 ∷ 19_999_999_000_000 ∷ [])
+    ∷ (map (chordCap (limitsWith 1_000 100)) (1 ∷ 999 ∷ 10_000_000 ∷ []) gives 400_000_000 ∷ 399_200_400_000_000 ∷ 7_999_600_000_000_000_000 ∷ [])
+    ∷ (chordCap (limitsWith 1 10_000) 1 ∷ chordCap (limitsWith 1 3_000) 1 ∷ [] gives 40_000 ∷ 444_444 ∷ [])
     -- One block (1000,0,0): plan 0, 0; peak 200,000,000; up 500, cruise 0, down 500
     ∷ (plan (east ∷ []) gives 0 ∷ 0 ∷ [])
     ∷ (firstRamp east [] gives 200_000_000 ∷ 500 ∷ 0 ∷ 500 ∷ [])

@@ -1,9 +1,9 @@
--- The chord rule's cap, the block cap, the corner cap and the junction cap are the largest numbers of document 01. From the laws
--- of division and of the capped quotient.
-use mathlib.Core.Path.{_≡_, refl, sym, ap}
+-- The chord rule's cap, the block cap, the corner cap and the junction cap are the largest numbers of document 01 and of Q-4. From the
+-- laws of division and of the capped quotient.
+use mathlib.Core.Path.{_≡_, refl, sym, ap, subst}
 use mathlib.Core.Bool.{Bool, true, false, cond}
-use Prim.Native.Nat.{ℕ, zero, suc, _*_, _/_, _≤_, _<_, min}
-use native.Mathlib.Nat.{le-trans, le-refl, le-min, min-le-left, min-le-right, mul-pos, mul-le-mul, le-div-iff-mul-le}
+use Prim.Native.Nat.{ℕ, zero, suc, _+_, _-_, _*_, _/_, _≤_, _<_, min}
+use native.Mathlib.Nat.{le-trans, le-refl, le-min, min-le-left, min-le-right, mul-pos, mul-le-mul, mul-le-mul-left, mul-le-mul-right, le-div-iff-mul-le, add-sub-of-le}
 use native.Mathlib.Omega.{arith}
 use borrow.Author.Tests.{ne-eqb}
 use lib.Dec.{eqb, le→leb}
@@ -15,28 +15,64 @@ use Rattle.arith.proofs.QuotientLaws.{quotient-is, quotient-positive}
 use Rattle.arith.proofs.SignedLaws.{gap-positive}
 use Rattle.machine.specs.Ranges.{mostFeed}
 use Rattle.machine.specs.Checks.{blockRefusal}
-use Rattle.machine.specs.Numbers.{CornerCap, none, upTo, unit, lengthOf, speedOf, chordFactor, chordCap, blockCapFrom, blockCap, dotOf, turnFrom, cornerFrom, cornerCap, underCorner, junctionCap}
-use Rattle.machine.specs.Meaning.{Largest, ChordFits, CornerIs, CornerFits, JunctionFits}
+use Rattle.machine.specs.Numbers.{CornerCap, none, upTo, unit, lengthOf, speedOf, toleranceAt, chordFactor, chordCap, blockCapFrom, blockCap, dotOf, turnFrom, cornerFrom, cornerCap, underCorner, junctionCap}
+use Rattle.machine.specs.Meaning.{Largest, ChordFits, ChordWithin, CornerIs, CornerFits, JunctionFits}
 use Rattle.machine.specs.declared.Limits.{Limits}
 use Rattle.machine.specs.declared.Block.{Block}
 use Rattle.machine.proofs.Bounds.{in-range}
+use Rattle.machine.proofs.LengthLaws.{largest-same}
 use Rattle.machine.proofs.AxisLaws.{speed-largest}
 
 -- a quotient is the largest number whose product with the divisor is not above n
 pub quotient-largest : (n d : ℕ) → 0 < d → Largest (λ q. q * d ≤ n) (n / d)
 quotient-largest n d h = record { has = le-div-iff-mul-le h .0 (le-refl (n / d)); most = λ p g. le-div-iff-mul-le h .1 g }
 
+-- to be within e of the circle is to be within E of it: R - e is R - E, or 0 where E is R or more
+pub within-tolerance : (l : Limits) (radius : ℕ) → radius - toleranceAt l radius ≡ radius - l .chord
+within-tolerance l radius = omega arith
+
+-- the chord rule's subtraction is never cut off: e × e is not above e × R
+pub factor-whole : (l : Limits) (radius : ℕ) → let e = toleranceAt l radius in chordFactor l radius + 4 * e * e ≡ 8 * e * radius
+unfolding chordFactor
+factor-whole l radius = omega (arith, mul-le-mul-left (toleranceAt l radius) (min-le-right (l .chord) radius))
+
 -- the chord rule's cap is the largest number of the rule
 pub chord-largest : (l : Limits) (radius : ℕ) → 0 < l .tick → Largest (ChordFits l radius) (chordCap l radius)
 unfolding chordCap
-chord-largest l radius h = quotient-largest _ (l .tick * l .tick) (mul-pos h h)
+chord-largest l radius h =
+    largest-same (λ p g. omega (arith, g, factor-whole l radius)) (λ p g. omega (arith, g, factor-whole l radius))
+    (quotient-largest _ (l .tick * l .tick) (mul-pos h h))
+
+-- (R - e)² + 2 × e × R is R² + e²
+apart-square : (e radius : ℕ) → e ≤ radius → (radius - e) * (radius - e) + 2 * (e * radius) ≡ radius * radius + e * e
+apart-square e radius h = subst (λ (r : ℕ). (radius - e) * (radius - e) + 2 * (e * r) ≡ r * r + e * e) (add-sub-of-le h) (sums e (radius - e))
+  where
+    sums : (e d : ℕ) → d * d + 2 * (e * (e + d)) ≡ (e + d) * (e + d) + e * e
+    sums e d = omega arith
+
+-- the rule is met exactly where the middle of a tick's chord stays within e of the circle
+pub chord-error : (l : Limits) (radius q : ℕ) → (ChordFits l radius q → ChordWithin l radius q) × (ChordWithin l radius q → ChordFits l radius q)
+chord-error l radius q =
+    let apart = apart-square (toleranceAt l radius) radius (min-le-right (l .chord) radius) in
+    (λ h. omega (arith, h, apart), λ h. omega (arith, h, apart))
+
+-- so the chord rule's cap is the largest squared speed whose chord does
+pub chord-within-largest : (l : Limits) (radius : ℕ) → 0 < l .tick → Largest (ChordWithin l radius) (chordCap l radius)
+chord-within-largest l radius h = largest-same (λ p. chord-error l radius p .0) (λ p. chord-error l radius p .1) (chord-largest l radius h)
 
 -- with a radius the block cap is the smaller of v squared and the chord rule's cap
 pub chord-capped : (l : Limits) (radius speed : ℕ) → 0 < l .tick → 0 < radius → blockCapFrom l radius speed ≡ min (speed * speed) (chordCap l radius)
 unfolding blockCapFrom chordCap
 chord-capped l radius speed h g = rw (ne-eqb radius 0 (λ e. omega arith)) (quotient-positive (speed * speed) _ (l .tick * l .tick) (mul-pos h h))
 
--- without one it is v squared
+-- and at every squared speed up to it the middle of a tick's chord stays within e of the circle
+pub chord-kept : (l : Limits) (b : Block) (q : ℕ) → 0 < l .tick → 0 < b .radius → q ≤ blockCap l b → ChordWithin l (b .radius) q
+chord-kept l b q h g below =
+    let capped : q ≤ min (speedOf l b * speedOf l b) (chordCap l (b .radius)) = subst (λ (cap : ℕ). q ≤ cap) (chord-capped l (b .radius) (speedOf l b) h g) below in
+    let product = mul-le-mul-right (l .tick * l .tick) (le-trans capped (min-le-right _ _)) in
+    omega (arith, product, chord-within-largest l (b .radius) h .has)
+
+-- without a radius it is v squared
 pub square-capped : (l : Limits) (speed : ℕ) → blockCapFrom l 0 speed ≡ speed * speed
 unfolding blockCapFrom
 square-capped l speed = refl

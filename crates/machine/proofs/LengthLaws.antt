@@ -16,6 +16,10 @@ use Rattle.machine.specs.declared.Block.{Block}
 pub largest-one : {Has : ℕ → Type 0} {q r : ℕ} → Largest Has q → Largest Has r → q ≡ r
 largest-one {q = q} {r = r} h g = le-antisymm (g .most q (h .has)) (h .most r (g .has))
 
+-- two rules that the same numbers meet have the same largest number
+pub largest-same : {Has Meets : ℕ → Type 0} {q : ℕ} → ((p : ℕ) → Has p → Meets p) → ((p : ℕ) → Meets p → Has p) → Largest Has q → Largest Meets q
+largest-same {q = q} to from h = record { has = to q (h .has); most = λ p g. h .most p (from p g) }
+
 -- the length is the largest number whose square is not above the sum
 pub length-largest : (m : Axes) → Largest (RootFits m) (lengthFrom m)
 unfolding lengthFrom

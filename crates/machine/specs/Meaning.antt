@@ -1,12 +1,12 @@
--- What document 01 says of the numbers where it says "the largest whole number with ...", in its own inequalities, and Q-2 where it
--- says "nearest". The definitions of `Numbers` compute by roots and quotients; the laws of `proofs/` say that they are these numbers.
+-- What document 01 says of the numbers where it says "the largest whole number with ...", in its own inequalities, Q-4 of the chord rule,
+-- and Q-2 where it says "nearest". The definitions of `Numbers` compute by roots and quotients; the laws of `proofs/` say that they are these numbers.
 use mathlib.Core.Path.{_≡_}
 use Prim.Native.Nat.{ℕ, _+_, _-_, _*_, _≤_, _<_}
 use lib.IntN.{ℤ, pos, _-ℤ_}
 use lib.Signed.{_≤ℤ_}
 use Rattle.arith.specs.Nearest.{NearestHalfDown, NearestHalfUp}
 use Rattle.machine.specs.Checks.{movesOf}
-use Rattle.machine.specs.Numbers.{CornerCap, none, upTo, unit, lengthOf, blockCap, chordFactor, cornerCap}
+use Rattle.machine.specs.Numbers.{CornerCap, none, upTo, unit, lengthOf, blockCap, toleranceAt, cornerCap}
 use Rattle.machine.specs.declared.Axes.{Axes}
 use Rattle.machine.specs.declared.Limits.{Limits}
 use Rattle.machine.specs.declared.Block.{Block}
@@ -36,9 +36,19 @@ SpeedFits l b v = (v ≤ b .feed) × Allowed (l .speed) (lengthOf b) (movesOf b)
 abbrev pub AccelFits : Limits → Block → ℕ → Type 0
 AccelFits l b = Allowed (l .accel) (lengthOf b) (movesOf b)
 
--- q × T × T ≤ 8 × E × R × 10^12
+-- q × T × T ≤ (8 × e × R - 4 × e × e) × 10^12, with no subtraction: 10^12 because T is in µs
 abbrev pub ChordFits : Limits → (radius : ℕ) → ℕ → Type 0
-ChordFits l radius q = q * (l .tick * l .tick) ≤ chordFactor l radius * 1_000_000_000_000
+ChordFits l radius q =
+    let e = toleranceAt l radius in
+    q * (l .tick * l .tick) + 4 * e * e * 1_000_000_000_000 ≤ 8 * e * radius * 1_000_000_000_000
+
+-- what that says of the curve. In one tick the squared speed q moves a chord c of the circle, c² = q × T² / 10^12. Its middle lies within
+-- e of the circle where it is at least R - e away from the centre: where (R - e)² + (c / 2)² ≤ R², here 4 × 10^12 times. As e is at
+-- most R, R - e is no less than 0
+abbrev pub ChordWithin : Limits → (radius : ℕ) → ℕ → Type 0
+ChordWithin l radius q =
+    let apart = radius - toleranceAt l radius in
+    4 * (apart * apart) * 1_000_000_000_000 + q * (l .tick * l .tick) ≤ 4 * (radius * radius) * 1_000_000_000_000
 
 -- what a corner cap is between blocks with P = `product` and S = `sum`: none where S ≥ P, otherwise, with the turn
 -- P - S above 0, the greatest number that the rule allows

@@ -26,8 +26,8 @@ unit = 1
 abbrev pub AxesBelow : (bound : ℕ) → Axes → Type 0
 AxesBelow bound a = (a .x < bound) × (a .y < bound) × (a .z < bound)
 
--- every limit is below 2^32: then each product that is formed in one word fits 64 bits. J × J × P and 8 × E × R × 10^12, which
--- have up to 82 and 77 bits within the ranges, are never formed in one: they go to the capped quotient as two factors
+-- every limit is below 2^32: then each product that is formed in one word fits 64 bits. J × J × P and the chord rule's factor × 10^12,
+-- which have up to 82 and 77 bits within the ranges, are never formed in one: they go to the capped quotient as two factors
 abbrev pub LimitsBelow : Limits → Type 0
 LimitsBelow l = AxesBelow (2 ^ 32) (l .accel) × AxesBelow (2 ^ 32) (l .speed) × (l .jump < 2 ^ 32) × (l .chord < 2 ^ 32) × (l .tick < 2 ^ 32)
 
@@ -87,11 +87,15 @@ reachFrom accel length = 2 * accel * length / unit
 abbrev pub reachOf : Machine → Block → ℕ
 reachOf m b = reachFrom (accelOf m b) (lengthOf b)
 
--- chord rule: 8 × E × R
-unfoldable pub chordFactor : Limits → (radius : ℕ) → ℕ
-chordFactor l radius = 8 * l .chord * radius
+-- e: how far the middle of a chord may lie from its circle, µm: the smaller of E and R
+abbrev pub toleranceAt : Limits → (radius : ℕ) → ℕ
+toleranceAt l radius = min (l .chord) radius
 
--- the chord rule's cap: the greatest q for which q × T × T stays within 8 × E × R × 10^12
+-- chord rule: 8 × e × R - 4 × e × e, which is never cut off (the law `factor-whole`)
+unfoldable pub chordFactor : Limits → (radius : ℕ) → ℕ
+chordFactor l radius = let e = toleranceAt l radius in 8 * e * radius - 4 * e * e
+
+-- the chord rule's cap: the greatest q for which q × T × T stays within (8 × e × R - 4 × e × e) × 10^12
 unfoldable pub chordCap : Limits → (radius : ℕ) → ℕ
 chordCap l radius = chordFactor l radius * 1_000_000_000_000 / (l .tick * l .tick)
 

@@ -2,7 +2,7 @@
 ghost use mathlib.Core.Path.{_≡_};
 ghost use Prim.Native.Nat.{_*_, _/_, _^_, _≤_, _<_, max};
 ghost use Rattle.machine.specs.Checks.{blockRefusal, movesOf};
-ghost use Rattle.machine.specs.Numbers.{AxesBelow, LimitsBelow, axisLimit, blockCapFrom, eachAxis, lengthFrom, lengthOf, numbersOf, speedOf, torquePercent};
+ghost use Rattle.machine.specs.Numbers.{AxesBelow, LimitsBelow, axisLimit, blockCapFrom, chordFactor, eachAxis, lengthFrom, lengthOf, numbersOf, speedOf, torquePercent};
 ghost use Rattle.machine.specs.Ranges.{mostAccel, mostFeed, mostRadius};
 use crate::Axes;
 use crate::Block;
@@ -15,6 +15,7 @@ use arith::quotient::capped_quotient;
 use arith::root::root;
 use arith::signed::magnitude;
 use arith::whole::larger;
+use arith::whole::smaller;
 
 // Parts of a µm in which a length is counted.
 pub const UNIT: u64 = 1;
@@ -73,6 +74,15 @@ fn accel_of(most: u64, torque: u64, speed: u64) -> u64
     larger(1, most * torque_percent(torque, speed) / 100)
 }
 
+// The chord rule's factor of 10^12, µm²: 8 × e × R - 4 × e × e, e the smaller of E and R.
+fn chord_factor(l: Limits, radius: u64) -> u64
+    requires { ⌜ radius ≤ mostRadius ⌝ }
+    ensures { λ r. ⌜ r ≡ chordFactor l radius ⌝ }
+{
+    let e = smaller(l.chord, radius);
+    8 * e * radius - 4 * e * e
+}
+
 // The block cap, (µm/s)².
 fn block_cap(l: Limits, radius: u64, speed: u64) -> u64
     requires { ⌜ LimitsBelow l × (radius ≤ mostRadius) × (speed ≤ mostFeed) ⌝ }
@@ -84,7 +94,7 @@ fn block_cap(l: Limits, radius: u64, speed: u64) -> u64
     }
     capped_quotient(
         square,
-        8 * l.chord * radius,
+        chord_factor(l, radius),
         1_000_000_000_000,
         l.tick * l.tick,
     )

@@ -3,42 +3,14 @@
 
 use std::collections::BTreeSet;
 
-use compare::proved::{self, Planner};
+use compare::lines::{compare_planners, compare_tapes};
+use compare::proved::Planner;
 use compare::ring::Ring;
 use compare::{report, same, seeds, Trying};
 use reference::generate::{block_of_speed, edge_speeds, path_at_edges, CAUSES, WAYS};
-use reference::line::{Line, LookAhead};
-use reference::machine::{Block, Limits, Numbers};
+use reference::line::LookAhead;
+use reference::machine::Numbers;
 use reference::rng::Rng;
-use reference::tape::{self, Tape};
-
-/// Adds the blocks to both planners, compares the plan and then each block as it
-/// is given out, its acceleration among the rest.
-fn compare_planners(seed: u64, limits: &Limits, blocks: &[Block]) {
-    let input = || format!("{limits:?} {blocks:?}");
-    let mut proved = Planner::fresh(limits).expect("limits that pass");
-    let mut line = Line::fresh(limits).expect("limits that pass");
-    for block in blocks {
-        same(seed, input, proved.add(block), line.add(block));
-    }
-    let mut plan = vec![77; blocks.len() + 1];
-    same(seed, input, proved.shown(&mut plan), Ok(()));
-    same(seed, input, plan, line.profile());
-    for _ in blocks {
-        same(seed, input, proved.take(), line.take());
-    }
-}
-
-/// Compares the plan of the blocks on a tape.
-fn compare_tapes(seed: u64, limits: &Limits, blocks: &[Block]) {
-    let input = || format!("{limits:?} {blocks:?}");
-    let (limits, blocks) = (*limits, blocks.to_vec());
-    let (mut plan, mut expected) = (vec![77; blocks.len() + 1], vec![77; blocks.len() + 1]);
-    let bytes = Tape { limits, blocks }.pack();
-    same(seed, input, proved::plan_tape(&bytes, &mut plan), Ok(()));
-    tape::plan_tape(&bytes, &mut expected).expect("an accepted tape");
-    same(seed, input, plan, expected);
-}
 
 /// Each edge speed, straight along an axis and oblique, by the feed and by the
 /// limit of an axis: one block, and the same block twice and three times, where

@@ -4,7 +4,7 @@ use std::fmt::Display;
 use std::ops::RangeInclusive;
 
 use crate::generate::{
-    faulty_block, faulty_limits, limits, machine_m, path, tiny_limits, BLOCK_FAULTS,
+    faulty_block, faulty_limits, limits, machine_m, path, tight_path, tiny_limits, BLOCK_FAULTS,
 };
 use crate::machine::{check_block, check_limits, junction_cap, range, Block, Limits, Numbers};
 use crate::refusal::Refusal;
@@ -115,10 +115,12 @@ pub fn cases() -> Vec<Case> {
     all.extend(block_ends());
     all.extend(torque_steps());
     all.extend(torque_edges());
+    all.extend(tight_curves());
     all.extend(small_blocks());
     all.extend(faults(&mut rng));
     all.extend((0..150).map(|_| along_a_path(&mut rng)));
     all.extend((0..100).map(|_| anywhere(&mut rng)));
+    all.extend((0..60).map(|_| along_tight_curves(&mut rng)));
     all
 }
 
@@ -146,11 +148,12 @@ fn on_m(before: Block, after: Block) -> Case {
     }
 }
 
-/// Document 01's proof cases.
+/// Document 01's proof cases, with document 02's chord caps.
 fn document() -> Vec<Case> {
     let with_feed = |feed| Block { feed, ..east() };
-    let curved = Block {
-        radius: 1_000,
+    let curved = |feed, radius| Block {
+        feed,
+        radius,
         ..east()
     };
     vec![
@@ -160,7 +163,8 @@ fn document() -> Vec<Case> {
         on_m(east(), block(0, 1_000, 0)),
         on_m(east(), block(-1_000, 0, 0)),
         on_m(east(), east()),
-        on_m(curved, east()),
+        on_m(curved(20_000, 1_000), east()),
+        on_m(curved(1_000_000, 1_000), curved(1_000_000, 1)),
         on_m(block(1_000_000, 0, 0), block(1_000_001, 0, 0)),
         on_m(with_feed(1_000_000), with_feed(1_000_001)),
         on_m(with_feed(0), east()),
@@ -275,6 +279,36 @@ fn torque_edges() -> Vec<Case> {
     (1..8).flat_map(|step| edge(125_000 * step)).collect()
 }
 
+/// Fast chords of curves with radii near the chord tolerance and of 1 µm, for
+/// tolerances and ticks that let the chord rule hold some of them back. One less
+/// than a tolerance of 1 µm is a radius of 0, no curve.
+fn tight_curves() -> Vec<Case> {
+    let fast = |radius| Block {
+        feed: 1_000_000,
+        radius,
+        ..east()
+    };
+    let machines = [
+        (1, 100),
+        (1, 2_000),
+        (1, 10_000),
+        (10, 100),
+        (500, 3_000),
+        (1_000, 100),
+        (1_000, 10_000),
+    ];
+    let mut cases = Vec::new();
+    for (chord, tick) in machines {
+        for (first, second) in [(1, 2), (chord - 1, chord), (chord + 1, 2 * chord)] {
+            let mut case = on_m(fast(first), fast(second));
+            case.limits.chord = chord;
+            case.limits.tick = tick;
+            cases.push(case);
+        }
+    }
+    cases
+}
+
 /// Blocks so short that a dropped fraction decides, and a corner cap of 0.
 fn small_blocks() -> Vec<Case> {
     let mut slow = on_m(block(1, 0, 0), block(0, 1, 0));
@@ -313,6 +347,16 @@ fn faults(rng: &mut Rng) -> Vec<Case> {
 fn along_a_path(rng: &mut Rng) -> Case {
     let limits = limits(rng);
     let blocks = path(rng, 2);
+    Case {
+        limits,
+        before: blocks[0],
+        after: blocks[1],
+    }
+}
+
+/// Two blocks that follow each other on a path over tight curves.
+fn along_tight_curves(rng: &mut Rng) -> Case {
+    let (limits, blocks) = tight_path(rng, 2);
     Case {
         limits,
         before: blocks[0],

@@ -36,15 +36,18 @@ fn corners() {
     assert_eq!(cap(along), None);
 }
 
+/// Document 02's chord caps on machine M, at a speed that is above them.
 #[test]
 fn chord() {
-    let curved = Block {
-        radius: 1_000,
+    let limits = machine_m();
+    let curved = |radius| Block {
+        radius,
         ..block(1_000, 0, 0)
     };
-    let limits = machine_m();
-    assert_eq!(block_cap(&limits, &curved, 1_000_000), 2_000_000_000);
-    assert_eq!(Numbers::of(&limits, &curved).cap, 400_000_000);
+    let chord_cap = |radius| block_cap(&limits, &curved(radius), 1_000_000);
+    assert_eq!(chord_cap(1_000), 1_999_000_000);
+    assert_eq!(chord_cap(1), 1_000_000);
+    assert_eq!(Numbers::of(&limits, &curved(1_000)).cap, 400_000_000);
 }
 
 #[test]

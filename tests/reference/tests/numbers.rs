@@ -121,7 +121,7 @@ fn greatest_numbers() {
     assert_eq!((numbers.length, numbers.accel), (1_732_050, 34_641_000));
     assert_eq!(numbers.reach, 2 * 34_641_000 * 1_732_050);
     let chord_only = block_cap(&most, &long, 4_000_000_000);
-    assert_eq!(chord_only, 8_000_000_000_000_000_000);
+    assert_eq!(chord_only, 7_999_600_000_000_000_000);
     let near = Block {
         moves: [1_000_000, 1_000_000, 999_999],
         ..long

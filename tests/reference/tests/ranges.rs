@@ -1,6 +1,8 @@
 //! Both ends of each range and one beyond, and the order of the checks.
 
-use reference::generate::{faulty_block, faulty_limits, limits, machine_m, path, BLOCK_FAULTS};
+use reference::generate::{
+    faulty_block, faulty_limits, limits, limits_and_path, machine_m, path, BLOCK_FAULTS,
+};
 use reference::machine::*;
 use reference::refusal::Refusal;
 use reference::rng::Rng;
@@ -98,7 +100,10 @@ fn generated_limits_and_paths_are_what_they_say() {
     for _ in 0..2_000 {
         assert_eq!(check_limits(&limits(&mut rng)), Ok(()));
         assert!(check_limits(&faulty_limits(&mut rng)).is_err());
-        for block in path(&mut rng, 20) {
+        let (limits, mut blocks) = limits_and_path(&mut rng, 20);
+        assert_eq!(check_limits(&limits), Ok(()));
+        blocks.extend(path(&mut rng, 20));
+        for block in blocks {
             assert_eq!(check_block(&block), Ok(()));
         }
     }

@@ -67,7 +67,8 @@ fn block_cap(limits: &Limits, radius: u128, speed: u128) -> u128 {
     if radius == 0 {
         return speed * speed;
     }
-    let bound = 8 * limits.chord as u128 * radius * 1_000_000_000_000;
+    let error = radius.min(limits.chord as u128);
+    let bound = (8 * error * radius - 4 * error * error) * 1_000_000_000_000;
     let tick = limits.tick as u128;
     capped_quotient(speed * speed, bound, tick * tick)
 }

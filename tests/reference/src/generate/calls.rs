@@ -1,16 +1,23 @@
 //! Lists of calls, and traces with whole, cut and faulty bytes.
 
 use super::blocks::{faulty_block, path, BLOCK_FAULTS};
-use super::limits::{faulty_limits, limits};
+use super::curves::limits_and_path;
+use super::limits::faulty_limits;
+use crate::machine::Block;
 use crate::rng::Rng;
 use crate::tape::pack_limits;
 use crate::trace::{pack_call, pack_trace, Call};
 
-/// A list of `count` calls. The share of takes changes from stretch to
-/// stretch, so that the line fills past 64, runs empty, and stays in between;
-/// some adds are faulty.
+/// A list of `count` calls with the blocks of a path.
 pub fn calls(rng: &mut Rng, count: usize) -> Vec<Call> {
     let blocks = path(rng, count);
+    adds_and_takes(rng, blocks)
+}
+
+/// A call for each block: its add, a take or a faulty add. The share of takes
+/// changes from stretch to stretch, so that the line fills past 64, runs empty,
+/// and stays in between.
+fn adds_and_takes(rng: &mut Rng, blocks: Vec<Block>) -> Vec<Call> {
     let mut takes_in_hundred = rng.pick(&[5, 30, 50, 60, 90]);
     let mut list = Vec::new();
     for block in blocks {
@@ -32,9 +39,9 @@ pub fn calls(rng: &mut Rng, count: usize) -> Vec<Call> {
 /// Bytes of a trace: most whole; some cut short, with faulty limits, with
 /// calls of noise, or of noise alone.
 pub fn trace(rng: &mut Rng) -> Vec<u8> {
-    let limits = limits(rng);
     let count = rng.spread(0, 400) as usize;
-    let mut bytes = pack_trace(&limits, &calls(rng, count));
+    let (limits, blocks) = limits_and_path(rng, count);
+    let mut bytes = pack_trace(&limits, &adds_and_takes(rng, blocks));
     match rng.below(16) {
         0 => cut(rng, &mut bytes),
         1 => bytes.truncate(rng.below(25) as usize),

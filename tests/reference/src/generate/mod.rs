@@ -2,6 +2,7 @@
 
 mod blocks;
 mod calls;
+mod curves;
 mod limits;
 mod speeds;
 mod tapes;
@@ -10,6 +11,7 @@ pub use blocks::{
     block, faulty_block, path, short_steps, straight_steps, tiny_block, BLOCK_FAULTS,
 };
 pub use calls::{calls, trace};
+pub use curves::{limits_and_path, tight_path, tight_radius};
 pub use limits::{faulty_limits, limits, machine_m, tiny_limits};
 pub use speeds::{block_of_speed, edge_speeds, path_at_edges, Cause, Way, CAUSES, WAYS};
 pub use tapes::{faulty_tape, set_last_bit, spoil_record, tape, TAPE_FAULTS};

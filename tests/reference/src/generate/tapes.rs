@@ -1,7 +1,8 @@
 //! Tapes: accepted ones, and ones with each refusal and pairs of refusals.
 
-use super::blocks::{faulty_block, path, BLOCK_FAULTS};
-use super::limits::{faulty_limits, limits};
+use super::blocks::{faulty_block, BLOCK_FAULTS};
+use super::curves::limits_and_path;
+use super::limits::faulty_limits;
 use crate::rng::Rng;
 use crate::tape::{pack_limits, pack_record, Tape, LIMITS_BYTES, MOST_BLOCKS, RECORD_BYTES};
 
@@ -31,8 +32,7 @@ pub fn tape(rng: &mut Rng) -> Vec<u8> {
 
 /// Bytes of an accepted tape of `count` blocks.
 fn whole(rng: &mut Rng, count: usize) -> Vec<u8> {
-    let limits = limits(rng);
-    let blocks = path(rng, count);
+    let (limits, blocks) = limits_and_path(rng, count);
     Tape { limits, blocks }.pack()
 }
 

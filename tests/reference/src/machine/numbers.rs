@@ -103,10 +103,17 @@ pub fn block_cap(limits: &Limits, block: &Block, speed: u64) -> u64 {
     chord_cap.min(squared as u128) as u64
 }
 
-/// Right side of the chord rule, 8 × E × R × 10^12: chord error over one tick
-/// with T in microseconds.
+/// Right side of the chord rule, (8 × e × R − 4 × e × e) × 10^12, where e is
+/// the smaller of the chord tolerance E and the radius R, both in µm.
+///
+/// A chord whose middle is e inside the circle has half a length h with
+/// h² = R² − (R − e)² = 2 × e × R − e × e; e = R makes it the diameter. The
+/// table runs 2 × h in one tick, which is v × T / 10^6 with v in µm/s and T in
+/// microseconds, so v² × T² is 4 × h² × 10^12.
 pub fn chord_bound(limits: &Limits, radius: u64) -> u128 {
-    8 * limits.chord as u128 * radius as u128 * 1_000_000_000_000
+    let r = radius as u128;
+    let e = r.min(limits.chord as u128);
+    (8 * e * r - 4 * e * e) * 1_000_000_000_000
 }
 
 /// Magnitude of a move in the unit of L.
