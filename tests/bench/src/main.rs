@@ -23,7 +23,11 @@ const WORKS: [(&str, Work); 3] = [
     ("tape", Work::Tape),
     ("root", Work::Root),
 ];
-const PATHS: [(&str, Path); 2] = [("mould", Path::Mould), ("straight", Path::Straight)];
+const PATHS: [(&str, Path); 3] = [
+    ("mould", Path::Mould),
+    ("straight", Path::Straight),
+    ("curved", Path::Curved),
+];
 const STEPS: [(&str, Path); 4] = [
     ("1 to 5 µm", Path::Steps(1, 5)),
     ("1 to 50 µm", Path::Steps(1, 50)),

@@ -1,4 +1,4 @@
-//! The two paths that planners are measured on, and the steps that the root is.
+//! The paths that planners are measured on, and the steps that the root is.
 //! Whole numbers only, so that every machine and every planner's harness makes
 //! the same blocks.
 
@@ -15,6 +15,9 @@ pub enum Path {
     /// X moves of 1 to 5 µm, feed 500,000 µm/s. Every add moves the limits of
     /// all blocks held.
     Straight,
+    /// The blocks of the mould, each on a curve of 1 mm radius, whose chord cap
+    /// on machine M is below the feed's.
+    Curved,
     /// Moves of a least and a greatest size on each axis, µm, feed 50,000 µm/s.
     Steps(u64, u64),
 }
@@ -25,6 +28,14 @@ impl Path {
         let mut draws = Draws::begin();
         match self {
             Path::Mould => marked(Raster::begin(draws), 50_000, count),
+            Path::Curved => {
+                let curved = |block| Block {
+                    radius: 1_000,
+                    ..block
+                };
+                let mould = Path::Mould.blocks(count);
+                mould.into_iter().map(curved).collect()
+            }
             Path::Straight => {
                 let moves = iter::repeat_with(|| [1 + draws.below(5), 0, 0]);
                 marked(moves, 500_000, count)
@@ -224,15 +235,23 @@ mod tests {
     }
 
     #[test]
-    fn blocks_have_feed_and_place_and_no_curve() {
-        let feeds = [
-            (Path::Mould, 50_000),
-            (Path::Straight, 500_000),
-            (Path::Steps(1, 50), 50_000),
+    fn the_curved_path_moves_as_the_mould() {
+        let all = 0..SUMMED;
+        assert_eq!(moves(Path::Curved, all.clone()), moves(Path::Mould, all));
+    }
+
+    #[test]
+    fn blocks_have_feed_radius_and_place() {
+        let fields = [
+            (Path::Mould, 50_000, 0),
+            (Path::Straight, 500_000, 0),
+            (Path::Curved, 50_000, 1_000),
+            (Path::Steps(1, 50), 50_000, 0),
         ];
-        for (path, feed) in feeds {
+        for (path, feed, radius) in fields {
             for (place, block) in (0..).zip(path.blocks(100)) {
-                assert_eq!((block.feed, block.radius, block.mark), (feed, 0, place));
+                let found = (block.feed, block.radius, block.mark);
+                assert_eq!(found, (feed, radius, place));
             }
         }
     }
