@@ -1,5 +1,5 @@
--- Demand 3 has one outcome: two that meet it for the same calls and the same length of a lent list are equal. And what it says of a
--- block given out holds its curve's tolerance.
+-- Demand 3 has one outcome: two that meet it for the same calls and the same length of a lent list are equal. And
+-- every block that is given out with a radius keeps the tolerance of its curve.
 use mathlib.Core.Bool.{Bool, true, false}
 use mathlib.Core.List.{List}
 use mathlib.Core.Path.{_≡_, refl, sym, _∙_}

@@ -45,10 +45,7 @@ chord-largest l radius h =
 
 -- (R - e)² + 2 × e × R is R² + e²
 apart-square : (e radius : ℕ) → e ≤ radius → (radius - e) * (radius - e) + 2 * (e * radius) ≡ radius * radius + e * e
-apart-square e radius h = subst (λ (r : ℕ). (radius - e) * (radius - e) + 2 * (e * r) ≡ r * r + e * e) (add-sub-of-le h) (sums e (radius - e))
-  where
-    sums : (e d : ℕ) → d * d + 2 * (e * (e + d)) ≡ (e + d) * (e + d) + e * e
-    sums e d = omega arith
+apart-square e radius h = subst (λ (r : ℕ). (radius - e) * (radius - e) + 2 * (e * r) ≡ r * r + e * e) (add-sub-of-le h) (omega arith)
 
 -- the rule is met exactly where the middle of a tick's chord stays within e of the circle
 pub chord-error : (l : Limits) (radius q : ℕ) → (ChordFits l radius q → ChordWithin l radius q) × (ChordWithin l radius q → ChordFits l radius q)

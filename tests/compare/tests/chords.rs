@@ -7,7 +7,8 @@ use compare::lines::{compare_planners, compare_tapes};
 use compare::programs::{planlist, run};
 use compare::proved::Planner;
 use compare::{report, seeds, Trying};
-use reference::generate::{machine_m, tight_path, tight_radius};
+use reference::circle::middle_is_within;
+use reference::generate::{machine_m, tight_path, tight_radius, with_chord};
 use reference::line::LookAhead;
 use reference::machine::{Block, Limits};
 use reference::rng::Rng;
@@ -41,15 +42,6 @@ fn between(limits: &Limits, radius: u64) -> u64 {
     let mut plan = [77; 3];
     planner.shown(&mut plan).expect("a list of three numbers");
     plan[1]
-}
-
-/// Machine M with another chord tolerance, µm, and tick, µs.
-fn with_chord(chord: u64, tick: u64) -> Limits {
-    Limits {
-        chord,
-        tick,
-        ..machine_m()
-    }
 }
 
 #[test]
@@ -88,16 +80,6 @@ fn planlist_has_the_speeds_of_tight_radii() {
     assert_eq!(listed(with_chord(5, 2_000), 100, &[3, 3]), below);
 }
 
-/// Whether the chord that a squared speed, (µm/s)², moves in one tick has its
-/// middle within the tolerance of the circle, or within the radius where that is
-/// less: at least the rest of the radius away from the centre.
-fn is_within(limits: &Limits, radius: u64, squared: u64) -> bool {
-    let apart = radius.saturating_sub(limits.chord) as u128;
-    let [radius, squared, tick] = [radius, squared, limits.tick].map(u128::from);
-    let per_tick = 10u128.pow(12);
-    4 * apart * apart * per_tick + squared * tick * tick <= 4 * radius * radius * per_tick
-}
-
 /// Limits of a machine so strong that two blocks of 1 m reach every cap, and a
 /// radius, µm, most often near the tolerance.
 fn tight(rng: &mut Rng) -> (Limits, u64) {
@@ -123,9 +105,9 @@ fn the_middle_of_a_chord_stays_within_the_tolerance() {
         let (limits, radius) = tight(&mut Rng::new(seed));
         let input = format!("{limits:?} radius {radius}");
         let squared = between(&limits, radius);
-        assert!(is_within(&limits, radius, squared), "{input}");
+        assert!(middle_is_within(&limits, radius, squared), "{input}");
         if squared < MOST_CAP {
-            assert!(!is_within(&limits, radius, squared + 1), "{input}");
+            assert!(!middle_is_within(&limits, radius, squared + 1), "{input}");
             held[match radius.cmp(&limits.chord) {
                 Ordering::Less => 0,
                 Ordering::Equal => 1,

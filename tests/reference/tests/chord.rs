@@ -3,7 +3,8 @@
 use std::cmp::Ordering;
 use std::collections::BTreeMap;
 
-use reference::generate::{limits, machine_m, path, tape, tight_path, tight_radius};
+use reference::circle::{middle_is_within, SQUARED_MICROS};
+use reference::generate::{limits, machine_m, path, tape, tight_path, tight_radius, with_chord};
 use reference::machine::*;
 use reference::machine_cases::{block, cases, Case};
 use reference::quick::plan_of;
@@ -12,48 +13,26 @@ use reference::tape::read_tape;
 
 /// A speed, µm/s, whose square is above every chord cap.
 const ABOVE_EVERY_CAP: u64 = 4_000_000_000;
-/// Square of the microseconds in a second.
-const SQUARED_MICROS: u128 = 1_000_000_000_000;
 
-/// Chord cap alone, (µm/s)², for a tolerance E, µm, a tick T, microseconds,
-/// and a radius R, µm.
-fn chord_cap(chord: u64, tick: u64, radius: u64) -> u64 {
-    let limits = Limits {
-        chord,
-        tick,
-        ..machine_m()
-    };
+/// Chord cap alone, (µm/s)², of a radius R, µm.
+fn chord_cap(limits: &Limits, radius: u64) -> u64 {
     let curved = Block {
         radius,
         ..block(1_000, 0, 0)
     };
-    block_cap(&limits, &curved, ABOVE_EVERY_CAP)
+    block_cap(limits, &curved, ABOVE_EVERY_CAP)
 }
 
 /// Machine M first; then the ends of E and T with radii of 1 and one below E.
 #[test]
 fn caps_of_given_radii() {
-    let on_m = |radius| chord_cap(1, 2_000, radius);
+    let on_m = |radius| chord_cap(&machine_m(), radius);
     assert_eq!([1, 2, 3].map(on_m), [1_000_000, 3_000_000, 5_000_000]);
     assert_eq!(on_m(1_000), 1_999_000_000);
     assert_eq!(on_m(10_000_000), 19_999_999_000_000);
-    assert_eq!(chord_cap(1_000, 100, 1), 400_000_000);
-    assert_eq!(chord_cap(1_000, 100, 999), 399_200_400_000_000);
-    assert_eq!(chord_cap(1, 10_000, 1), 40_000);
-}
-
-/// True if the table at squared speed q, (µm/s)², stays within the smaller of E
-/// and R of the circle.
-///
-/// In one tick it runs a chord of √q × T / 10^6 µm. With h half of that, the
-/// chord's middle is √(R² − h²) from the centre, and is within e of the circle
-/// if (R − e)² ≤ R² − h². Both sides are taken × 4 × 10^12, which makes h² the
-/// whole number q × T².
-fn middle_is_within(chord: u64, tick: u64, radius: u64, q: u64) -> bool {
-    let to_centre = (radius - chord.min(radius)) as u128;
-    let [r, t] = [radius, tick].map(u128::from);
-    let run = u128::from(q) * t * t;
-    4 * to_centre * to_centre * SQUARED_MICROS + run <= 4 * r * r * SQUARED_MICROS
+    assert_eq!(chord_cap(&with_chord(1_000, 100), 1), 400_000_000);
+    assert_eq!(chord_cap(&with_chord(1_000, 100), 999), 399_200_400_000_000);
+    assert_eq!(chord_cap(&with_chord(1, 10_000), 1), 40_000);
 }
 
 /// The chord cap is the greatest squared speed within the tolerance, for radii
@@ -69,10 +48,11 @@ fn cap_is_the_greatest_within_tolerance() {
             0 => rng.spread(1, *range::RADIUS.end()),
             _ => tight_radius(&mut rng, chord),
         };
-        let q = chord_cap(chord, tick, radius);
+        let limits = with_chord(chord, tick);
+        let q = chord_cap(&limits, radius);
         let drawn = (chord, tick, radius);
-        assert!(middle_is_within(chord, tick, radius, q), "{drawn:?}");
-        assert!(!middle_is_within(chord, tick, radius, q + 1), "{drawn:?}");
+        assert!(middle_is_within(&limits, radius, q), "{drawn:?}");
+        assert!(!middle_is_within(&limits, radius, q + 1), "{drawn:?}");
         *met.entry(radius.cmp(&chord)).or_insert(0) += 1;
     }
     println!("{met:?}");

@@ -14,6 +14,15 @@ pub fn machine_m() -> Limits {
     }
 }
 
+/// Machine M with another chord tolerance, µm, and tick, microseconds.
+pub fn with_chord(chord: u64, tick: u64) -> Limits {
+    Limits {
+        chord,
+        tick,
+        ..machine_m()
+    }
+}
+
 /// Limits that pass check 1.
 pub fn limits(rng: &mut Rng) -> Limits {
     match rng.below(6) {

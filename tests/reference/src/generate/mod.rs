@@ -12,6 +12,6 @@ pub use blocks::{
 };
 pub use calls::{calls, trace};
 pub use curves::{limits_and_path, tight_path, tight_radius};
-pub use limits::{faulty_limits, limits, machine_m, tiny_limits};
+pub use limits::{faulty_limits, limits, machine_m, tiny_limits, with_chord};
 pub use speeds::{block_of_speed, edge_speeds, path_at_edges, Cause, Way, CAUSES, WAYS};
 pub use tapes::{faulty_tape, set_last_bit, spoil_record, tape, TAPE_FAULTS};
