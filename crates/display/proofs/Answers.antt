@@ -22,6 +22,7 @@ refusal-above why.Empty = omega arith
 refusal-above why.Ragged = omega arith
 refusal-above why.Many = omega arith
 refusal-above why.List = omega arith
+refusal-above why.Steps = omega arith
 
 module _ {A : Type 0} (a b : A) where
   -- Nothing refused, and something refused.
@@ -78,7 +79,7 @@ pub refuses-by : {What : Type 0} (a : What) (r : Refusal) {n : ℕ} → n ≡ re
 refuses-by a r {n} e = let h : 0 < n = rw e (refusal-above r) in refuses a n h (sym e)
 
 -- The number of a check's answer that is known.
-told-refused : {r : Checked} {w : Refusal} {n : ℕ} → r ≡ Refused w → checkedMeans r ≡ n → n ≡ refusalNumber w
+pub told-refused : {r : Checked} {w : Refusal} {n : ℕ} → r ≡ Refused w → checkedMeans r ≡ n → n ≡ refusalNumber w
 told-refused e h = sym h ∙ ap checkedMeans e
 
 pub told-passed : {r : Checked} {n : ℕ} → r ≡ Passed → checkedMeans r ≡ n → n ≡ 0

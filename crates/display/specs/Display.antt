@@ -19,6 +19,7 @@ refusalNumber why.Empty = 8
 refusalNumber why.Ragged = 9
 refusalNumber why.Many = 10
 refusalNumber why.List = 11
+refusalNumber why.Steps = 14
 
 -- a check's answer is a number; 0 says that it passed
 abbrev pub checkedMeans : Checked → ℕ

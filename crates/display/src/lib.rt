@@ -15,6 +15,7 @@ pub enum Refusal {
     Ragged,
     Many,
     List,
+    Steps,
 }
 
 // The answer of a check.
@@ -39,6 +40,7 @@ pub fn refusal_number(why: Refusal) -> u64
         Refusal::Ragged => 9,
         Refusal::Many => 10,
         Refusal::List => 11,
+        Refusal::Steps => 14,
     }
 }
 

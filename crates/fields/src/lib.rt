@@ -21,7 +21,7 @@ fn pow2(k: usize) -> u64
 }
 
 // A byte as a word.
-fn wide(b: u8) -> u64
+pub fn wide(b: u8) -> u64
     ensures { λ r. ⌜ r ≡ b ⌝ }
 {
     b as u64

@@ -116,23 +116,23 @@ module _ (blocks : ℕ) (sheet plan : List ℕ) where
       }
 
 -- the lines of an accepted tape: from block k on they begin with its row,
-module _ (s : List ℕ) where
+module _ (s loaded : List ℕ) where
   abbrev pub linesFrom : ℕ → List ℕ
-  linesFrom k = linesOf (tapeMachine s) (drop k (tapeBlocks s)) (drop k (tapePlan s))
+  linesFrom k = linesOf (tapeMachine s loaded) (drop k (tapeBlocks s)) (drop k (tapePlan s loaded))
 
-  pub rows-listed : (k : ℕ) → k < recordsIn s → linesFrom k ≡ givenText (rowOf s k) ++ linesFrom (k + 1)
+  pub rows-listed : (k : ℕ) → k < recordsIn s → linesFrom k ≡ givenText (rowOf s loaded k) ++ linesFrom (k + 1)
   unfolding linesOf
   rows-listed k h =
-      ap (λ (t : List Block). linesOf (tapeMachine s) t (drop k (tapePlan s))) (drop-blocks s h)
+      ap (λ (t : List Block). linesOf (tapeMachine s loaded) t (drop k (tapePlan s loaded))) (drop-blocks s h)
       ∙ (λ i.
       givenText
-      (givenOf (tapeMachine s) (recordAt s k) ((getD-drop k (tapePlan s) 0 0 ∙ ap (numberAt (tapePlan s)) (add-zero k)) i) (getD-drop k (tapePlan s) 1 0 i))
-      ++ linesOf (tapeMachine s) (drop (k + 1) (tapeBlocks s)) (drop-drop 1 k (tapePlan s) i))
+      (givenOf (tapeMachine s loaded) (recordAt s k) ((getD-drop k (tapePlan s loaded) 0 0 ∙ ap (numberAt (tapePlan s loaded)) (add-zero k)) i) (getD-drop k (tapePlan s loaded) 1 0 i))
+      ++ linesOf (tapeMachine s loaded) (drop (k + 1) (tapeBlocks s)) (drop-drop 1 k (tapePlan s loaded) i))
 
   pub rows-end : linesFrom (recordsIn s) ≡ []
   unfolding linesOf
   rows-end =
-      ap (λ (t : List Block). linesOf (tapeMachine s) t (drop (recordsIn s) (tapePlan s)))
+      ap (λ (t : List Block). linesOf (tapeMachine s loaded) t (drop (recordsIn s) (tapePlan s loaded)))
       (ap (λ (i : ℕ). drop i (tapeBlocks s)) (sym (length-blocks s)) ∙ drop-length (tapeBlocks s))
 
 -- a line has at least its line feed
@@ -141,25 +141,25 @@ unfolding givenText row
 given-some g = omega (arith, length-line (decimal (g .block .mark)) (drop 1 (listedOf g)))
 
 -- and they are those of its rows, whatever follows them and its plan
-module _ (s : List ℕ) {blocks : ℕ} (sheet plan : List ℕ) (passed : tapeRefusal s ≡ 0) (count : blocks ≡ recordsIn s)
-    (measured : (k : ℕ) → k < recordsIn s → measuredAt sheet k ≡ measuredOf (tapeMachine s) (recordAt s k))
-    (same : (k : ℕ) → k ≤ recordsIn s → numberAt plan k ≡ numberAt (tapePlan s) k) where
-  row-line : (k : ℕ) → k < recordsIn s → lineAt blocks sheet plan k ≡ givenText (rowOf s k)
+module _ (s loaded : List ℕ) {blocks : ℕ} (sheet plan : List ℕ) (passed : tapeRefusal s ≡ 0) (count : blocks ≡ recordsIn s)
+    (measured : (k : ℕ) → k < recordsIn s → measuredAt sheet k ≡ measuredOf (tapeMachine s loaded) (recordAt s k))
+    (same : (k : ℕ) → k ≤ recordsIn s → numberAt plan k ≡ numberAt (tapePlan s loaded) k) where
+  row-line : (k : ℕ) → k < recordsIn s → lineAt blocks sheet plan k ≡ givenText (rowOf s loaded k)
   row-line k h =
       line-here blocks sheet plan k (omega (arith, count))
       ∙ (λ i.
       givenText (givenBetween (marked (measured k h i .mark)) (measured k h i .numbers) (same k (omega arith) i) (same (k + 1) (omega arith) i)))
-      ∙ row-between s passed k h
+      ∙ row-between s loaded passed k h
 
   -- there is a byte where there is a block
   pub lines-some : (k n : ℕ) → k < recordsIn s → 0 < length (rowLines blocks sheet plan k (suc n))
   unfolding rowLines
   lines-some k n h =
-      omega (arith, length-append (lineAt blocks sheet plan k) (rowLines blocks sheet plan (suc k) n), ap length (row-line k h), given-some (rowOf s k))
+      omega (arith, length-append (lineAt blocks sheet plan k) (rowLines blocks sheet plan (suc k) n), ap length (row-line k h), given-some (rowOf s loaded k))
 
-  pub lines-accepted : (k n : ℕ) → k + n ≡ recordsIn s → rowLines blocks sheet plan k n ≡ linesFrom s k
+  pub lines-accepted : (k n : ℕ) → k + n ≡ recordsIn s → rowLines blocks sheet plan k n ≡ linesFrom s loaded k
   unfolding rowLines
-  lines-accepted k zero e = let all : recordsIn s ≡ k = omega arith in sym (rows-end s) ∙ ap (linesFrom s) all
+  lines-accepted k zero e = let all : recordsIn s ≡ k = omega arith in sym (rows-end s loaded) ∙ ap (linesFrom s loaded) all
   lines-accepted k (suc n) e =
-      (λ i. row-line k (omega arith) i ++ (lines-accepted (suc k) n (omega arith) ∙ ap (linesFrom s) (sym (add-one k))) i)
-      ∙ sym (rows-listed s k (omega arith))
+      (λ i. row-line k (omega arith) i ++ (lines-accepted (suc k) n (omega arith) ∙ ap (linesFrom s loaded) (sym (add-one k))) i)
+      ∙ sym (rows-listed s loaded k (omega arith))

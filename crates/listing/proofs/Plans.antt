@@ -25,23 +25,23 @@ between-given : (m : Machine) (b : Block) (entry exit : ℕ) → Rampable (numbe
 unfolding givenBetween givenOf givenText
 between-given m b entry exit h = rw (rampable-holds (numbersOf m b) entry exit h)
 
-module _ (s : List ℕ) (passed : tapeRefusal s ≡ 0) where
+module _ (s loaded : List ℕ) (passed : tapeRefusal s ≡ 0) where
   abbrev block : ℕ → Block
   block k = recordAt s k
 
   abbrev speed : ℕ → ℕ
-  speed k = numberAt (tapePlan s) k
+  speed k = numberAt (tapePlan s loaded) k
 
   pub row-between : (k : ℕ) → k < recordsIn s
-      → givenText (givenBetween (marked (block k .mark)) (numbersOf (tapeMachine s) (block k)) (speed k) (speed (k + 1))) ≡ givenText (rowOf s k)
-  row-between k h = between-given (tapeMachine s) (block k) (speed k) (speed (k + 1)) (accepted-ramps s passed k h)
+      → givenText (givenBetween (marked (block k .mark)) (numbersOf (tapeMachine s loaded) (block k)) (speed k) (speed (k + 1))) ≡ givenText (rowOf s loaded k)
+  row-between k h = between-given (tapeMachine s loaded) (block k) (speed k) (speed (k + 1)) (accepted-ramps s loaded passed k h)
 
   -- the ramp of each is the one between its speeds, up and down to the nearest
-  pub rows-ramp : (k : ℕ) → k < recordsIn s → RampIs (numbersOf (tapeMachine s) (block k)) (speed k) (speed (k + 1)) (rowOf s k .ramp)
+  pub rows-ramp : (k : ℕ) → k < recordsIn s → RampIs (numbersOf (tapeMachine s loaded) (block k)) (speed k) (speed (k + 1)) (rowOf s loaded k .ramp)
   unfolding givenOf numbersOf
-  rows-ramp k h = ramp-is (numbersOf (tapeMachine s) (block k)) (speed k) (speed (k + 1)) (accepted-ramps s passed k h) refl
+  rows-ramp k h = ramp-is (numbersOf (tapeMachine s loaded) (block k)) (speed k) (speed (k + 1)) (accepted-ramps s loaded passed k h) refl
 
   -- up, cruise and down make up the block
-  pub rows-fill : (k : ℕ) → k < recordsIn s → rowOf s k .ramp .up + rowOf s k .ramp .cruise + rowOf s k .ramp .down ≡ rowOf s k .length
+  pub rows-fill : (k : ℕ) → k < recordsIn s → rowOf s loaded k .ramp .up + rowOf s loaded k .ramp .cruise + rowOf s loaded k .ramp .down ≡ rowOf s loaded k .length
   unfolding givenOf numbersOf
   rows-fill k h = rows-ramp k h .fills

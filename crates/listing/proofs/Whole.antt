@@ -11,7 +11,8 @@ use Rattle.profile.specs.Line.{numberAt}
 use Rattle.display.specs.Display.{refusalNumber, Fault}
 use Rattle.tape.specs.Answers.{mostBlocks, tapeRefusal}
 use Rattle.display.proofs.Answers.{at-zero}
-use Rattle.tapeplan.specs.Planned.{plannedMeans, tapePlan}
+use Rattle.tapeplan.specs.Planned.{plannedMeans, tapePlan, wholeRefusal}
+use Rattle.tapeplan.proofs.Answered.{whole-passed}
 use Rattle.tapeplan.proofs.Plans.{accepted-junctions, accepted-records}
 use Rattle.display.specs.declared.Refusal.{Refusal}
 use Rattle.text.specs.Text.{header, refusedAt, refusedWords}
@@ -45,24 +46,27 @@ unfolding partsOf
 parts-none listing sheet p zero h = refl
 parts-none listing sheet p (suc n) h = λ i. h p (omega arith) i ++ parts-none listing sheet (suc p) n (λ j l. h j (omega arith)) i
 
-module _ (s before sheet : List ℕ) (listing : Listing) (from : ListingFrom s before sheet listing) where
+module _ (s loaded before sheet : List ℕ) (listing : Listing) (from : ListingFrom s loaded before sheet listing) where
   -- the lines of n blocks from block k on
   abbrev lines : (k n : ℕ) → List ℕ
   lines k n = rowLines (listing .blocks) sheet (listing .plan) k n
 
   -- a tape that was planned
   module _ (is : listing .answer ≡ Planned) where
-    passed : tapeRefusal s ≡ 0
+    passed : wholeRefusal s loaded ≡ 0
     passed = ap (λ (f : Fault). f .number) (sym (from .fault) ∙ ap plannedMeans is)
 
-    plan-same : (k : ℕ) → k ≤ recordsIn s → numberAt (listing .plan) k ≡ numberAt (tapePlan s) k
+    own : tapeRefusal s ≡ 0
+    own = whole-passed s loaded passed .0
+
+    plan-same : (k : ℕ) → k ≤ recordsIn s → numberAt (listing .plan) k ≡ numberAt (tapePlan s loaded) k
     unfolding put
     plan-same k h =
-        ap (λ (t : List ℕ). numberAt t k) (from .plan ∙ ap (put noPlan 0) (at-zero (tapePlan s) [] passed))
-        ∙ List·getD-append (tapePlan s) (drop (0 + length (tapePlan s)) noPlan) 0 k (omega (arith, accepted-junctions s passed))
+        ap (λ (t : List ℕ). numberAt t k) (from .plan ∙ ap (put noPlan 0) (at-zero (tapePlan s loaded) [] passed))
+        ∙ List·getD-append (tapePlan s loaded) (drop (0 + length (tapePlan s loaded)) noPlan) 0 k (omega (arith, accepted-junctions s loaded own))
 
     count : listing .blocks ≡ recordsIn s
-    count = omega (arith, from .blocks, accepted-records s passed)
+    count = omega (arith, from .blocks, accepted-records s own)
 
     part-is : (p : ℕ) → partOf listing sheet p ≡ headIn p ++ lines (partBlocks * p) (partLines p)
     unfolding plannedPart
@@ -83,23 +87,23 @@ module _ (s before sheet : List ℕ) (listing : Listing) (from : ListingFrom s b
         ∙ ap (lines (partBlocks * suc p)) count
 
     -- all lines of the rows are the tape's lines
-    lines-all : lines 0 mostBlocks ≡ linesFrom s 0
+    lines-all : lines 0 mostBlocks ≡ linesFrom s loaded 0
     lines-all =
-        let size : mostBlocks ≡ recordsIn s + (mostBlocks - recordsIn s) = omega (arith, accepted-records s passed) in
+        let size : mostBlocks ≡ recordsIn s + (mostBlocks - recordsIn s) = omega (arith, accepted-records s own) in
         ap (lines 0) size
         ∙ lines-both (listing .blocks) sheet (listing .plan) 0 (recordsIn s) (mostBlocks - recordsIn s)
         ∙ (λ i.
-        lines-accepted s sheet (listing .plan) passed count (from .sheet-after .rows passed) plan-same 0 (recordsIn s) (zero-add (recordsIn s)) i
+        lines-accepted s loaded sheet (listing .plan) own count (from .sheet-after .rows passed) plan-same 0 (recordsIn s) (zero-add (recordsIn s)) i
         ++ lines-beyond (listing .blocks) sheet (listing .plan) (0 + recordsIn s) (mostBlocks - recordsIn s) (omega (arith, count)) i)
-        ∙ append-nil (linesFrom s 0)
+        ∙ append-nil (linesFrom s loaded 0)
 
-    parts-planned : partsOf listing sheet 0 mostParts ≡ listingOf s
+    parts-planned : partsOf listing sheet 0 mostParts ≡ listingOf s loaded
     unfolding partsOf
     parts-planned =
         (λ i. part-is 0 i ++ parts-behind 0 (mostParts - 1) (omega arith) i)
         ∙ append-assoc header (lines 0 partBlocks) (lines partBlocks (partBlocks * (mostParts - 1)))
         ∙ ap (λ (t : List ℕ). header ++ t) (sym (lines-both (listing .blocks) sheet (listing .plan) 0 partBlocks (partBlocks * (mostParts - 1))) ∙ lines-all)
-        ∙ sym (listing-accepted s passed)
+        ∙ sym (listing-accepted s loaded passed)
 
     -- behind an empty part there is none
     end-planned : (p : ℕ) → partOf listing sheet p ≡ [] → (j : ℕ) → p ≤ j → partOf listing sheet j ≡ []
@@ -111,12 +115,12 @@ module _ (s before sheet : List ℕ) (listing : Listing) (from : ListingFrom s b
         go : Dec (partBlocks * suc p < recordsIn s) → recordsIn s ≤ partBlocks * suc p
         go (no g) = omega arith
         go (yes g) =
-            let size : partLines (suc p) ≡ suc (partBlocks - 1) = omega (arith, accepted-records s passed) in
+            let size : partLines (suc p) ≡ suc (partBlocks - 1) = omega (arith, accepted-records s own) in
             absurd (omega (
               arith,
               ap length (sym (part-is (suc p)) ∙ e),
               ap (λ (n : ℕ). length (lines (partBlocks * suc p) n)) size,
-              lines-some s sheet (listing .plan) passed count (from .sheet-after .rows passed) plan-same (partBlocks * suc p) (partBlocks - 1) g,
+              lines-some s loaded sheet (listing .plan) own count (from .sheet-after .rows passed) plan-same (partBlocks * suc p) (partBlocks - 1) g,
             ))
 
         listed : recordsIn s ≤ partBlocks * suc p
@@ -132,21 +136,21 @@ module _ (s before sheet : List ℕ) (listing : Listing) (from : ListingFrom s b
     end-refused (suc p) e zero h = absurd (omega arith)
     end-refused (suc p) e (suc j) h = line-is (suc j)
 
-    parts-refused : partsOf listing sheet 0 mostParts ≡ listingOf s
+    parts-refused : partsOf listing sheet 0 mostParts ≡ listingOf s loaded
     unfolding partsOf
     parts-refused =
         (λ i. line-is 0 i ++ parts-none listing sheet 1 (mostParts - 1) behind i)
-        ∙ append-nil (refusedAt (refusalNumber why) place) ∙ sym (listing-refused s why place (sym (ap plannedMeans is) ∙ from .fault))
+        ∙ append-nil (refusedAt (refusalNumber why) place) ∙ sym (listing-refused s loaded why place (sym (ap plannedMeans is) ∙ from .fault))
       where
         behind : (j : ℕ) → 1 ≤ j → partOf listing sheet j ≡ []
         behind zero h = absurd (omega arith)
         behind (suc j) h = line-is (suc j)
 
   -- All 16 parts of a listing, joined, are the listing of the tape that it was made from; behind an empty part every part is empty.
-  pub parts-whole : partsOf listing sheet 0 mostParts ≡ listingOf s
+  pub parts-whole : partsOf listing sheet 0 mostParts ≡ listingOf s loaded
   parts-whole = by (listing .answer) refl
     where
-      by : (a : TapePlanned) → listing .answer ≡ a → partsOf listing sheet 0 mostParts ≡ listingOf s
+      by : (a : TapePlanned) → listing .answer ≡ a → partsOf listing sheet 0 mostParts ≡ listingOf s loaded
       by Planned is = parts-planned is
       by (Refused why place) is = parts-refused why place is
 
@@ -158,7 +162,7 @@ module _ (s before sheet : List ℕ) (listing : Listing) (from : ListingFrom s b
       by (Refused why place) is = end-refused why place is p e
 
   -- So what is written part after part, until a part is empty or 16 are written, is the whole listing.
-  pub listing-written : (n : ℕ) → n ≤ mostParts → (n < mostParts → partOf listing sheet n ≡ []) → partsOf listing sheet 0 n ≡ listingOf s
+  pub listing-written : (n : ℕ) → n ≤ mostParts → (n < mostParts → partOf listing sheet n ≡ []) → partsOf listing sheet 0 n ≡ listingOf s loaded
   unfolding partsOf
   listing-written n h e =
       let all : mostParts ≡ n + (mostParts - n) = omega arith in

@@ -11,22 +11,21 @@ use Rattle.text.specs.Text.{header, refusedAt}
 use Rattle.listing.specs.Given.{givenText}
 use Rattle.tape.specs.Tape.{recordAt, tapeBlocks}
 use Rattle.display.specs.Display.{byNumber}
-use Rattle.tape.specs.Answers.{tapeRefusal, tapePlace}
-use Rattle.tapeplan.specs.Planned.{tapeMachine, tapePlan}
+use Rattle.tapeplan.specs.Planned.{tapeMachine, tapePlan, wholePlace, wholeRefusal}
 
 -- a line for each block, in order, with the plan's numbers at its two ends as entry and exit
 unfoldable pub linesOf : Machine → List Block → (plan : List ℕ) → List ℕ
 linesOf m [] plan = []
 linesOf m (b ∷ rest) plan = givenText (givenOf m b (numberAt plan 0) (numberAt plan 1)) ++ linesOf m rest (drop 1 plan)
 
--- block k of an accepted tape as it is listed
-abbrev pub rowOf : List ℕ → (k : ℕ) → Given
-rowOf s k = givenOf (tapeMachine s) (recordAt s k) (numberAt (tapePlan s) k) (numberAt (tapePlan s) (k + 1))
+-- block k of an accepted tape as it is listed with loaded torque steps
+abbrev pub rowOf : (s loaded : List ℕ) (k : ℕ) → Given
+rowOf s loaded k = givenOf (tapeMachine s loaded) (recordAt s k) (numberAt (tapePlan s loaded) k) (numberAt (tapePlan s loaded) (k + 1))
 
 -- what is listed of an accepted tape
-abbrev pub acceptedText : List ℕ → List ℕ
-acceptedText s = header ++ linesOf (tapeMachine s) (tapeBlocks s) (tapePlan s)
+abbrev pub acceptedText : (s loaded : List ℕ) → List ℕ
+acceptedText s loaded = header ++ linesOf (tapeMachine s loaded) (tapeBlocks s) (tapePlan s loaded)
 
--- the listing of any bytes: of an accepted tape, or the refusal's line
-unfoldable pub listingOf : List ℕ → List ℕ
-listingOf s = byNumber (tapeRefusal s) (acceptedText s) (refusedAt (tapeRefusal s) (tapePlace s))
+-- the listing of any bytes with any bytes for steps: of an accepted tape, or the refusal's line
+unfoldable pub listingOf : (s loaded : List ℕ) → List ℕ
+listingOf s loaded = byNumber (wholeRefusal s loaded) (acceptedText s loaded) (refusedAt (wholeRefusal s loaded) (wholePlace s loaded))

@@ -9,8 +9,8 @@ use lib.ListN.{replicate}
 use Rattle.profile.specs.Line.{numberAt}
 use Rattle.display.specs.Display.{refusalNumber, byNumber}
 use Rattle.tape.specs.Tape.{recordsIn}
-use Rattle.tape.specs.Answers.{mostBlocks, tapeFault, tapeRefusal}
-use Rattle.tapeplan.specs.Planned.{plannedMeans, tapeMachine, tapePlan}
+use Rattle.tape.specs.Answers.{mostBlocks}
+use Rattle.tapeplan.specs.Planned.{plannedMeans, tapeMachine, tapePlan, wholeFault, wholeRefusal}
 use Rattle.tapeplan.specs.Sheet.{SheetAfter, measuredAt}
 use Rattle.machine.specs.Labels.{plainBlock}
 use Rattle.machine.specs.declared.Block.{Block}
@@ -88,10 +88,10 @@ partsOf listing sheet p (suc n) = partOf listing sheet p ++ partsOf listing shee
 abbrev pub noPlan : List ℕ
 noPlan = replicate mostJunctions 0
 
--- what is kept of a tape: the answer of planning it, the number of its blocks, its plan with zeros behind it, or only zeros where it is refused, and the
+-- what is kept of a tape and loaded torque steps: the answer of planning it, the number of its blocks, its plan with zeros behind it, or only zeros where it is refused, and the
 -- lent sheet before and after
-pub record ListingFrom (s before after : List ℕ) (listing : Listing) : Type 0 where
-  pub fault : plannedMeans (listing .answer) ≡ tapeFault s
+pub record ListingFrom (s loaded before after : List ℕ) (listing : Listing) : Type 0 where
+  pub fault : plannedMeans (listing .answer) ≡ wholeFault s loaded
   pub blocks : listing .blocks ≡ min (recordsIn s) mostBlocks
-  pub plan : listing .plan ≡ put noPlan 0 (byNumber (tapeRefusal s) (tapePlan s) [])
-  pub sheet-after : SheetAfter (tapeMachine s) s (tapeRefusal s) before after
+  pub plan : listing .plan ≡ put noPlan 0 (byNumber (wholeRefusal s loaded) (tapePlan s loaded) [])
+  pub sheet-after : SheetAfter (tapeMachine s loaded) s (wholeRefusal s loaded) before after

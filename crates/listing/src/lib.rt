@@ -129,15 +129,16 @@ pub struct Listing {
 }
 
 impl Listing {
-    // Plans a tape and stores what is measured of each block in the lent sheet; on a refusal the sheet holds what it held.
-    // Each record is decoded and its numbers are worked out once.
-    pub fn of(s: &[u8], sheet: &mut [u64; SHEET]) -> Listing
-        ensures { λ r. ⌜ ListingFrom (now (s .entry)) (now (sheet .entry)) (now (sheet .exit)) r ⌝ }
+    // Plans a tape with the torque steps that are loaded, eight bytes, or none for the built-in steps, and stores what is
+    // measured of each block in the lent sheet; on a refusal the sheet holds what it held. Each record is decoded and its
+    // numbers are worked out once.
+    pub fn of(s: &[u8], steps: &[u8], sheet: &mut [u64; SHEET]) -> Listing
+        ensures { λ r. ⌜ ListingFrom (now (s .entry)) (now (steps .entry)) (now (sheet .entry)) (now (sheet .exit)) r ⌝ }
     {
         let blocks = fewer(records_in(s), MOST_BLOCKS);
         let junctions = blocks + 1;
         let mut plan = [0u64; JUNCTIONS];
-        let answer = plan_measured(s, sheet, &mut plan[..junctions]);
+        let answer = plan_measured(s, steps, sheet, &mut plan[..junctions]);
         Listing {
             answer: answer,
             blocks: blocks,

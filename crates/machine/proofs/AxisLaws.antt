@@ -1,26 +1,22 @@
 -- Block speed and acceleration are the largest numbers of document 01, and no axis limit is broken. From arith's laws of the
 -- capped quotient and the laws of the length.
-use mathlib.Core.Path.{_≡_, refl, sym, subst}
-use mathlib.Core.List.{List, _∷_, []}
-use mathlib.Core.Bool.{Bool, true, _&&_}
-use Prim.Native.Nat.{ℕ, zero, suc, _-_, _*_, _/_, _%_, _^_, _≤_, _<_, max}
+use mathlib.Core.Path.{_≡_, sym, subst}
+use Prim.Native.Nat.{ℕ, _*_, _/_, _^_, _≤_, _<_, max}
 use native.Mathlib.Nat.{le-trans, le-of-lt, lt-of-not-le, mul-le-mul, mul-le-mul-left, mul-le-mul-right, le-max-left, max-le, max-eq-left, max-eq-right, mul-comm, mul-left-comm, mul-assoc, mul-pos, le-of-mul-le-mul-right, div-le-of-le-mul}
-use native.Mathlib.Decide.{decLe, ℕ-discrete}
+use native.Mathlib.Decide.{decLe}
 use native.Mathlib.Omega.{arith}
-use borrow.Author.Tests.{leb-true, eqb-true}
-use lib.Dec.{leb, eqb, lit<}
-use lib.ListN.{getD}
+use lib.Dec.{lit<}
 use Rattle.arith.proofs.QuotientLaws.{quotient-is}
-use Rattle.machine.specs.Ranges.{mostAccel, mostSpeed, mostFeed}
+use Rattle.machine.specs.Ranges.{mostAccel, mostSpeed}
 use Rattle.machine.specs.Checks.{greatestMove, movesOf, blockRefusal, limitsRefusal}
-use Rattle.machine.specs.Numbers.{unit, lengthFrom, lengthOf, axisLimit, eachAxis, speedOf, torqueOf, builtInSteps, builtInTorque, builtIn, torquePercent, axisAccel, accelOf}
+use Rattle.machine.specs.Numbers.{unit, lengthFrom, lengthOf, axisLimit, eachAxis, speedOf, axisAccel, accelOf}
+use Rattle.machine.specs.Torque.{torquePercent}
 use Rattle.machine.specs.Meaning.{Largest, Allowed, SpeedFits, AccelFits}
 use Rattle.machine.specs.declared.Axes.{Axes}
 use Rattle.machine.specs.declared.Limits.{Limits}
 use Rattle.machine.specs.declared.Machine.{Machine}
 use Rattle.machine.specs.declared.Block.{Block}
 use Rattle.machine.proofs.Bounds.{AxesIn, in-range, limits-in}
-use Rattle.machine.proofs.Tests.{both}
 use Rattle.machine.proofs.Limited.{each-below}
 use Rattle.machine.proofs.LengthLaws.{length-spans, length-within}
 
@@ -100,49 +96,7 @@ axis-accel-largest l b h g =
 pub axis-accel-above : (l : Limits) (b : Block) → limitsRefusal l ≡ 0 → blockRefusal b ≡ 0 → 1 ≤ axisAccel l b
 axis-accel-above l b h g = axis-accel-largest l b h g .most 1 (one-allowed mostAccel (l .accel) (movesOf b) (limits-in l h .accel-in))
 
--- every number of a list is at most `most`
-atMost : ℕ → List ℕ → Bool
-atMost most [] = true
-atMost most (x ∷ s) = leb x most && atMost most s
-
-list-at-most : (most : ℕ) (s : List ℕ) → atMost most s ≡ true → (k : ℕ) → getD s k 0 ≤ most
-unfolding atMost
-list-at-most most [] e k = omega arith
-list-at-most most (x ∷ s) e zero = leb-true x most (both (leb x most) (atMost most s) e .0)
-list-at-most most (x ∷ s) e (suc k) = list-at-most most s (both (leb x most) (atMost most s) e .1) k
-
--- the first n bytes of the built-in torque are its steps' percentages
-bytesAgree : ℕ → Bool
-bytesAgree zero = true
-bytesAgree (suc k) = eqb (builtInTorque / 2 ^ (8 * (7 - k)) % 256) (getD builtInSteps k 0) && bytesAgree k
-
-agree-at : (n : ℕ) → bytesAgree n ≡ true → (k : ℕ) → k < n → builtInTorque / 2 ^ (8 * (7 - k)) % 256 ≡ getD builtInSteps k 0
-unfolding bytesAgree
-agree-at zero e k h = absurd (omega arith)
-agree-at (suc n) e k h =
-    let here = both _ _ e in
-    elim (ℕ-discrete k n) [ yes q ↦ rw q (eqb-true _ _ (here .0)) | no q ↦ agree-at n (here .1) k (omega arith) ]
-
-percent-at : (k : ℕ) → k < 8 → builtInTorque / 2 ^ (8 * (7 - k)) % 256 ≡ getD builtInSteps k 0
-unfolding bytesAgree torqueOf
-percent-at = agree-at 8 refl
-
--- the built-in percent at a block speed is that of its step
-pub built-in-percents : (v : ℕ) → v ≤ mostFeed → torquePercent builtInTorque v ≡ getD builtInSteps ((v - 1) / 125_000) 0
-unfolding torquePercent
-built-in-percents v h = percent-at ((v - 1) / 125_000) (omega arith)
-
--- it is at most 100 at any speed: the last step has no end
-pub percent-below : (v : ℕ) → torquePercent builtInTorque v ≤ 100
-unfolding torquePercent atMost
-percent-below v = go ((v - 1) / 125_000)
-  where
-    go : (k : ℕ) → builtInTorque / 2 ^ (8 * (7 - k)) % 256 ≤ 100
-    go k =
-        let back : 7 - k ≡ 7 - (7 - (7 - k)) = omega arith in
-        rw (back, percent-at (7 - (7 - k)) (omega arith)) (list-at-most 100 builtInSteps refl (7 - (7 - k)))
-
--- of any torque it is a byte
+-- the percent of any torque is a byte
 pub percent-byte : (torque v : ℕ) → torquePercent torque v < 256
 unfolding torquePercent
 percent-byte torque v = omega arith
@@ -175,7 +129,3 @@ accel-allowed m b h g percent =
     allowed-below (l .accel) (lengthOf b) (movesOf b)
     (max-le (axis-accel-above l b h g) (torqued-below _ _ percent))
     (axis-accel-largest l b h g .has)
-
--- so it does with the built-in torque
-pub built-in-allowed : (l : Limits) (b : Block) → limitsRefusal l ≡ 0 → blockRefusal b ≡ 0 → AccelFits l b (accelOf (builtIn l) b)
-built-in-allowed l b h g = accel-allowed (builtIn l) b h g (percent-below (speedOf l b))

@@ -12,3 +12,4 @@ pub mod Rampables
 pub mod Runs
 pub mod Spans
 pub mod Tests
+pub mod TorqueLaws

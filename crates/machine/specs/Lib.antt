@@ -7,3 +7,4 @@ pub mod Lists
 pub mod Meaning
 pub mod Numbers
 pub mod Ranges
+pub mod Torque

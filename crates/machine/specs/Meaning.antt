@@ -1,10 +1,13 @@
 -- What document 01 says of the numbers where it says "the largest whole number with ...", in its own inequalities, Q-4 of the chord rule,
 -- and Q-2 where it says "nearest". The definitions of `Numbers` compute by roots and quotients; the laws of `proofs/` say that they are these numbers.
 use mathlib.Core.Path.{_≡_}
-use Prim.Native.Nat.{ℕ, _+_, _-_, _*_, _≤_, _<_}
+use mathlib.Core.List.{List, []}
+use Prim.Native.Nat.{ℕ, suc, _+_, _-_, _*_, _≤_, _<_}
 use lib.IntN.{ℤ, pos, _-ℤ_}
+use lib.ListN.{length, getD}
 use lib.Signed.{_≤ℤ_}
 use Rattle.arith.specs.Nearest.{NearestHalfDown, NearestHalfUp}
+use Rattle.machine.specs.Ranges.{stepCount, leastPercent, mostPercent}
 use Rattle.machine.specs.Checks.{movesOf}
 use Rattle.machine.specs.Numbers.{CornerCap, none, upTo, unit, lengthOf, blockCap, toleranceAt, cornerCap}
 use Rattle.machine.specs.declared.Axes.{Axes}
@@ -17,6 +20,17 @@ use Rattle.machine.specs.declared.Ramp.{Ramp}
 pub record Largest (Has : ℕ → Type 0) (q : ℕ) : Type 0 where
   pub has : Has q
   pub most : (p : ℕ) → Has p → p ≤ q
+
+-- eight percentages of 1 to 100, none of which exceeds the one before it
+pub record StepsFit (steps : List ℕ) : Type 0 where
+  pub eight : length steps ≡ stepCount
+  pub in-range : (i : ℕ) → i < stepCount → (leastPercent ≤ getD steps i 0) × (getD steps i 0 ≤ mostPercent)
+  pub falls : (i : ℕ) → suc i < stepCount → getD steps (suc i) 0 ≤ getD steps i 0
+
+-- steps that are accepted: none are loaded, or such
+pub data StepsAccepted : (loaded : List ℕ) → Type 0 where
+  noneLoaded : StepsAccepted []
+  fit : {loaded : List ℕ} → StepsFit loaded → StepsAccepted loaded
 
 -- a square not above the sum of the three squared moves
 abbrev pub RootFits : Axes → ℕ → Type 0

@@ -1,16 +1,15 @@
 -- Document 01, "From a block to its numbers" and the ramp of "Plan, give out, ramp".
 -- Lengths are in µm, speeds in µm/s, squared speeds and reaches in (µm/s)², accelerations in µm/s².
-use mathlib.Core.List.{List, _∷_, []}
-use Prim.Native.Nat.{ℕ, zero, suc, _+_, _-_, _*_, _/_, _%_, _^_, _≤_, _<_, min, max}
+use Prim.Native.Nat.{ℕ, zero, suc, _+_, _-_, _*_, _/_, _^_, _≤_, _<_, min, max}
 use mathlib.Core.Bool.{Bool, _&&_, cond}
 use lib.Dec.{leb, ltb, eqb}
 use lib.IntN.{ℤ, pos, _+ℤ_, _*ℤ_}
-use lib.ListN.{length}
 use Rattle.arith.specs.Root.{rootOf}
 use Rattle.arith.specs.Quotient.{cappedQuotient}
 use Rattle.arith.specs.Signed.{gapOf}
 use Rattle.machine.specs.Ranges.{mostAccel}
 use Rattle.machine.specs.Checks.{movesOf}
+use Rattle.machine.specs.Torque.{torquePercent}
 use Rattle.machine.specs.declared.Axes.{Axes}
 use Rattle.machine.specs.declared.Limits.{Limits}
 use Rattle.machine.specs.declared.Machine.{Machine}
@@ -49,27 +48,6 @@ eachAxis cap limits length m = axisLimit (axisLimit (axisLimit cap (limits .x) l
 -- Block speed v: as fast as the feed and the speed limit of every moving axis allow
 unfoldable pub speedOf : Limits → Block → ℕ
 speedOf l b = eachAxis (b .feed) (l .speed) (lengthOf b) (movesOf b)
-
--- percentages of torque steps as one number: a byte for each, the first most significant
-unfoldable pub torqueOf : List ℕ → ℕ
-torqueOf [] = 0
-torqueOf (percent ∷ rest) = percent * 256 ^ length rest + torqueOf rest
-
--- document 01's torque steps: percent of the acceleration at each
-abbrev pub builtInSteps : List ℕ
-builtInSteps = 100 ∷ 100 ∷ 90 ∷ 80 ∷ 70 ∷ 60 ∷ 50 ∷ 40 ∷ []
-
-abbrev pub builtInTorque : ℕ
-builtInTorque = torqueOf builtInSteps
-
--- the machine with these limits and document 01's torque steps
-abbrev pub builtIn : Limits → Machine
-builtIn l = record { limits = l; torque = builtInTorque }
-
--- the percent at a speed: a step is 125,000 µm/s, the first begins at 1, the eighth and last has the lowest byte
--- (of the built-in torque it is that step's percent: the law `built-in-percents`)
-unfoldable pub torquePercent : (torque v : ℕ) → ℕ
-torquePercent torque v = torque / 2 ^ (8 * (7 - (v - 1) / 125_000)) % 256
 
 -- as much acceleration as the limit of every moving axis allows
 -- (of a block that moves it is below the bound given here: the law `axis-accel-largest`)

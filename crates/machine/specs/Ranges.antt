@@ -51,6 +51,16 @@ mostFeed = 1_000_000
 abbrev pub mostRadius : ℕ
 mostRadius = 10_000_000
 
+-- torque steps, and the percentage of each
+abbrev pub stepCount : ℕ
+stepCount = 8
+
+abbrev pub leastPercent : ℕ
+leastPercent = 1
+
+abbrev pub mostPercent : ℕ
+mostPercent = 100
+
 -- mark
 abbrev pub mostMark : ℕ
 mostMark = 2_097_151

@@ -42,7 +42,7 @@ pub const MOST_RADIUS: u64 = 10_000_000;
 pub const MOST_MARK: u64 = 2_097_151;
 
 // Whether a value is from `low` to `high`.
-fn is_within(low: u64, high: u64, value: u64) -> bool
+pub(crate) fn is_within(low: u64, high: u64, value: u64) -> bool
     ensures { λ r. ⌜ r ≡ within low high value ⌝ }
 {
     low <= value && value <= high

@@ -75,6 +75,12 @@ pub struct Ramp {
     pub down: u64,
 }
 
+// The answer of a call for a machine.
+pub enum MachineAnswer {
+    Of(Machine),
+    Refused(Refusal),
+}
+
 // The answer of a call for a block's numbers.
 pub enum NumbersAnswer {
     Of(Numbers),

@@ -2,8 +2,9 @@
 ghost use mathlib.Core.Path.{_≡_};
 ghost use Prim.Native.Nat.{_*_, _/_, _^_, _≤_, _<_, max};
 ghost use Rattle.machine.specs.Checks.{blockRefusal, movesOf};
-ghost use Rattle.machine.specs.Numbers.{AxesBelow, LimitsBelow, axisLimit, blockCapFrom, chordFactor, eachAxis, lengthFrom, lengthOf, numbersOf, speedOf, torquePercent};
+ghost use Rattle.machine.specs.Numbers.{AxesBelow, LimitsBelow, axisLimit, blockCapFrom, chordFactor, eachAxis, lengthFrom, lengthOf, numbersOf, speedOf};
 ghost use Rattle.machine.specs.Ranges.{mostAccel, mostFeed, mostRadius};
+ghost use Rattle.machine.specs.Torque.{torquePercent};
 use crate::Axes;
 use crate::Block;
 use crate::Limits;

@@ -4,7 +4,7 @@ use mathlib.Core.Path.{_≡_, refl}
 use Prim.Native.Nat.{ℕ, zero, suc, _≤_}
 use native.Mathlib.Omega.{arith}
 use lib.ListN.{take}
-use Rattle.machine.specs.Numbers.{builtIn}
+use Rattle.machine.specs.Torque.{machineOf}
 use Rattle.machine.specs.declared.Limits.{Limits}
 use Rattle.line.specs.declared.Given.{Given}
 use Rattle.line.specs.Answers.{Answer, gave}
@@ -35,20 +35,20 @@ called-given none line h k g e = absurd (let z : _≡_ {A = ℕ} 0 1 = cc in ome
 called-given (next {c} one more) line h zero g e = holds-given h c g (let s = one .line line h .0 in cc)
 called-given (next one more) line h (suc k) g e = called-given more _ (one .line line h .1) k g e
 
--- DEMAND 3. From a fresh planner in any memory, for every list of adds and takes, each on the memory that the one before it left,
+-- DEMAND 3. From a fresh planner of any limits and loaded torque steps in any memory, for every list of adds and takes, each on the memory that the one before it left,
 -- refused ones included, then told and shown: every call is answered as the line of blocks says, every block given out has
 -- the speeds of the highest lawful profile as it stood then, the number told is the line's, and the plan shown is its highest
 -- lawful profile.
-pub demand3 : {m₀ m m′ lent left : List ℕ} {l : Limits} {refusal told : ℕ} {calls : List Call} {answers : List Answer} {said : Answer}
-    → Freshened m₀ l refusal m → refusal ≡ 0 → CalledAll m calls answers m′ → Told m′ told → Showed m′ lent said left
-    → Demand3 (builtIn l) calls answers told lent said left
-demand3 {l} {calls} fresh passed called told showed =
+pub demand3 : {m₀ m m′ loaded lent left : List ℕ} {l : Limits} {refusal told : ℕ} {calls : List Call} {answers : List Answer} {said : Answer}
+    → Freshened m₀ l loaded refusal m → refusal ≡ 0 → CalledAll m calls answers m′ → Told m′ told → Showed m′ lent said left
+    → Demand3 (machineOf l loaded) calls answers told lent said left
+demand3 {loaded} {l} {calls} fresh passed called told showed =
     let begin = fresh .line passed in
-    let end = lineAfterAll (freshLine (builtIn l)) calls in
-    let run = called-line called (freshLine (builtIn l)) begin in
+    let end = lineAfterAll (freshLine (machineOf l loaded)) calls in
+    let run = called-line called (freshLine (machineOf l loaded)) begin in
     record {
       answered = run .0;
-      given = called-given called (freshLine (builtIn l)) begin;
+      given = called-given called (freshLine (machineOf l loaded)) begin;
       number = told .line end (run .1);
       plan = showed .line end (run .1);
     }

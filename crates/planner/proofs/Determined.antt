@@ -9,7 +9,7 @@ use Rattle.planner.specs.Calls.{Called, Freshened, Told, Showed}
 use Rattle.planner.proofs.View.{view-determines}
 
 module _ {m a b : List ℕ} where
-  pub fresh-one : {l : Limits} {n k : ℕ} → Freshened m l n a → Freshened m l k b → (n ≡ k) × (a ≡ b)
+  pub fresh-one : {l : Limits} {loaded : List ℕ} {n k : ℕ} → Freshened m l loaded n a → Freshened m l loaded k b → (n ≡ k) × (a ≡ b)
   fresh-one p q = (p .answer ∙ sym (q .answer), view-determines a b (p .sized) (q .sized) (p .after ∙ sym (q .after)))
 
   pub called-one : {c : Call} {s t : Answer} → Called m c s a → Called m c t b → (s ≡ t) × (a ≡ b)

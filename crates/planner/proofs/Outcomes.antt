@@ -7,10 +7,10 @@ use borrow.Author.Tests.{le-leb, lt-leb, eq-eqb, ne-eqb}
 use native.Mathlib.Omega.{arith}
 use lib.Dec.{lit<, leb}
 use lib.ListN.{length}
-use Rattle.display.proofs.Answers.{then-first}
+use Rattle.display.proofs.Answers.{then-first, then-zero}
 use Rattle.display.specs.Display.{_then_}
-use Rattle.machine.specs.Checks.{limitsRefusal, blockRefusal}
-use Rattle.machine.specs.Numbers.{builtIn}
+use Rattle.machine.specs.Checks.{blockRefusal}
+use Rattle.machine.specs.Torque.{machineOf, machineRefusal}
 use Rattle.machine.specs.declared.Block.{Block}
 use Rattle.machine.specs.declared.Limits.{Limits}
 use Rattle.line.specs.declared.Given.{Given}
@@ -47,27 +47,27 @@ called m m′ call said sized answer after unchanged =
       line = λ line h. let next = holds-call call h in (answer ∙ next .0, rw after (next .1));
     }
 
-module _ (m : List ℕ) (sized : length m ≡ memorySize) (l : Limits) where
-  -- Limits refused,
-  pub fresh-refused : (n : ℕ) → 0 < n → n ≡ limitsRefusal l → Freshened m l n m
+module _ (m : List ℕ) (sized : length m ≡ memorySize) (l : Limits) (loaded : List ℕ) where
+  -- Limits or steps refused,
+  pub fresh-refused : (n : ℕ) → 0 < n → n ≡ machineRefusal l loaded → Freshened m l loaded n m
   fresh-refused n h e =
       record {
         sized = sized;
         answer = e;
-        after = above-zero (λ k. viewOf m ≡ freshIn k (viewOf m) l) (λ k. refl) n h ∙ ap (λ (k : ℕ). freshIn k (viewOf m) l) e;
+        after = above-zero (λ k. viewOf m ≡ freshIn k (viewOf m) (machineOf l loaded)) (λ k. refl) n h ∙ ap (λ (k : ℕ). freshIn k (viewOf m) (machineOf l loaded)) e;
         unchanged = λ p. refl;
         line = λ z. absurd (omega arith);
       }
 
   -- and accepted.
-  pub fresh-made : (m′ : List ℕ) → length m′ ≡ memorySize → 0 ≡ limitsRefusal l → viewOf m′ ≡ freshIn 0 (viewOf m) l → Freshened m l 0 m′
+  pub fresh-made : (m′ : List ℕ) → length m′ ≡ memorySize → 0 ≡ machineRefusal l loaded → viewOf m′ ≡ freshIn 0 (viewOf m) (machineOf l loaded) → Freshened m l loaded 0 m′
   fresh-made m′ s e v =
       record {
         sized = s;
         answer = e;
-        after = v ∙ ap (λ (k : ℕ). freshIn k (viewOf m) l) e;
+        after = v ∙ ap (λ (k : ℕ). freshIn k (viewOf m) (machineOf l loaded)) e;
         unchanged = λ p. absurd (omega arith);
-        line = λ z. rw v (holds-fresh (builtIn l) (viewOf m .places) (sym e) (view-sized m));
+        line = λ z. rw v (holds-fresh (machineOf l loaded) (viewOf m .places) (then-zero _ (sym e) .0) (view-sized m));
       }
 
 -- An add that is refused by a number changes nothing.

@@ -4,9 +4,9 @@ use mathlib.Core.Path.{_≡_}
 use Prim.Native.Nat.{ℕ, zero, suc, _<_}
 use lib.ListN.{length}
 use Rattle.profile.specs.Passes.{brakeFrom, exitFrom}
-use Rattle.machine.specs.Checks.{limitsRefusal}
-use Rattle.machine.specs.Numbers.{builtIn}
+use Rattle.machine.specs.Torque.{machineOf, machineRefusal}
 use Rattle.machine.specs.declared.Limits.{Limits}
+use Rattle.machine.specs.declared.Machine.{Machine}
 use Rattle.line.specs.Answers.{Answer, refused, answerBy}
 use Rattle.line.specs.Blocks.{Call, Line, freshLine, lineAnswer, lineAfter}
 use Rattle.line.specs.Demand.{ShownOf}
@@ -55,17 +55,18 @@ pub data CalledAll : (memory : List ℕ) (calls : List Call) (answers : List Ans
   next : {m m′ m″ : List ℕ} {c : Call} {a : Answer} {calls : List Call} {answers : List Answer} → Called m c a m′ → CalledAll m′ calls answers m″
       → CalledAll m (c ∷ calls) (a ∷ answers) m″
 
--- A fresh planner of a machine with the built-in torque, or refusal 1 and no change.
-abbrev pub freshIn : (refusal : ℕ) → Ring → Limits → Ring
-freshIn zero r l = freshRing (builtIn l) (r .places)
-freshIn (suc n) r l = r
+-- A fresh planner of a machine, or a refusal and no change.
+abbrev pub freshIn : (refusal : ℕ) → Ring → Machine → Ring
+freshIn zero r m = freshRing m (r .places)
+freshIn (suc n) r m = r
 
-pub record Freshened (entry : List ℕ) (l : Limits) (refusal : ℕ) (exit : List ℕ) : Type 0 where
+-- a fresh planner of limits and loaded torque steps, or refusal 1, then 14
+pub record Freshened (entry : List ℕ) (l : Limits) (loaded : List ℕ) (refusal : ℕ) (exit : List ℕ) : Type 0 where
   pub sized : length exit ≡ memorySize
-  pub answer : refusal ≡ limitsRefusal l
-  pub after : viewOf exit ≡ freshIn (limitsRefusal l) (viewOf entry) l
+  pub answer : refusal ≡ machineRefusal l loaded
+  pub after : viewOf exit ≡ freshIn (machineRefusal l loaded) (viewOf entry) (machineOf l loaded)
   pub unchanged : 0 < refusal → exit ≡ entry
-  pub line : refusal ≡ 0 → MemoryHolds exit (freshLine (builtIn l))
+  pub line : refusal ≡ 0 → MemoryHolds exit (freshLine (machineOf l loaded))
 
 -- The plan in a lent list, or refusal 11 and no change.
 abbrev pub shownList : (refusal : ℕ) → Ring → List ℕ → List ℕ

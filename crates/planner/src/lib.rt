@@ -21,12 +21,12 @@ mod ring;
 // Numbers of a planner's memory.
 pub const NUMBERS: usize = memory::NUMBERS;
 
-// Makes a fresh planner of the limits; its places hold whatever they held. Refusal 1 changes
-// nothing.
-pub fn fresh(memory: &mut [u64; NUMBERS], l: Limits) -> Checked
-    ensures { λ r. ⌜ Freshened (now (memory .entry)) l (checkedMeans r) (now (memory .exit)) ⌝ }
+// Makes a fresh planner of the limits and the torque steps that are loaded, eight bytes, or none for the built-in steps; its
+// places hold whatever they held. Refusals 1 and 14 change nothing.
+pub fn fresh(memory: &mut [u64; NUMBERS], l: Limits, steps: &[u8]) -> Checked
+    ensures { λ r. ⌜ Freshened (now (memory .entry)) l (now (steps .entry)) (checkedMeans r) (now (memory .exit)) ⌝ }
 {
-    ring::fresh_in(memory, l)
+    ring::fresh_in(memory, l, steps)
 }
 
 // Adds a block behind those held. The first of refusals 2 to 7 that it meets changes nothing.
@@ -79,8 +79,8 @@ pub struct Planner {
     numbers: [u64; NUMBERS],
 }
 
-// The answer and the planner after it, of the limits, of an add and of a take. The planner of
-// refused limits is all zeros: it holds nothing, and is not to be used.
+// The answer and the planner after it, of the limits and steps, of an add and of a take. The planner
+// of refused ones is all zeros: it holds nothing, and is not to be used.
 pub struct Made {
     pub answer: Checked,
     pub planner: Planner,
@@ -119,12 +119,18 @@ impl Planner {
     pub const LEAST_TICK: u64 = machine::check::LEAST_TICK;
 
     pub const MOST_TICK: u64 = machine::check::MOST_TICK;
+    // Loaded torque steps, and the range of the percentage of each.
+    pub const STEPS: usize = machine::torque::STEPS;
 
-    pub fn fresh(l: Limits) -> Made
-        ensures { λ r. ⌜ Freshened (replicate memorySize 0) l (checkedMeans (r .answer)) (r .planner .numbers) ⌝ }
+    pub const LEAST_PERCENT: u64 = machine::torque::LEAST_PERCENT;
+
+    pub const MOST_PERCENT: u64 = machine::torque::MOST_PERCENT;
+
+    pub fn fresh(l: Limits, steps: &[u8]) -> Made
+        ensures { λ r. ⌜ Freshened (replicate memorySize 0) l (now (steps .entry)) (checkedMeans (r .answer)) (r .planner .numbers) ⌝ }
     {
         let mut numbers = [0u64; NUMBERS];
-        let answer = fresh(&mut numbers, l);
+        let answer = fresh(&mut numbers, l, steps);
         Made {
             answer: answer,
             planner: Planner { numbers: numbers },

@@ -37,12 +37,12 @@ use line::ShowAnswer;
 use line::TakeAnswer;
 use machine::Block;
 use machine::Limits;
+use machine::MachineAnswer;
 use machine::Numbers;
+use machine::answer::machine_answer;
 use machine::check::check_block;
-use machine::check::check_limits;
 use machine::corner::junction_from;
 use machine::measure::numbers;
-use machine::torque::built_in;
 use ramps::given_between;
 
 // The cap of the junction between the last block held and a new one, (µm/s)²; 0 where none is held.
@@ -179,15 +179,15 @@ pub fn show_in(memory: &[u64], list: &mut [u64]) -> ShowAnswer
     ShowAnswer::Refused(Refusal::List)
 }
 
-// Makes a fresh planner of the limits, or refuses them by 1.
-pub fn fresh_in(memory: &mut [u64], l: Limits) -> Checked
+// Makes a fresh planner of the limits and the loaded steps, or refuses them by 1, then by 14.
+pub fn fresh_in(memory: &mut [u64], l: Limits, steps: &[u8]) -> Checked
     requires { ⌜ length (now memory) ≡ memorySize ⌝ }
-    ensures { λ r. ⌜ Freshened (now (memory .entry)) l (checkedMeans r) (now (memory .exit)) ⌝ }
+    ensures { λ r. ⌜ Freshened (now (memory .entry)) l (now (steps .entry)) (checkedMeans r) (now (memory .exit)) ⌝ }
 {
-    match check_limits(l) {
-        Checked::Refused(r) => Checked::Refused(r),
-        Checked::Passed => {
-            store_fresh(memory, built_in(l));
+    match machine_answer(l, steps) {
+        MachineAnswer::Refused(why) => Checked::Refused(why),
+        MachineAnswer::Of(m) => {
+            store_fresh(memory, m);
             Checked::Passed
         }
     }

@@ -9,8 +9,7 @@ use borrow.Author.Tests.{eq-eqb}
 use lib.ListN.{length, take, drop}
 use lib.Seq.{length-take-le, take-at, drop-at}
 use borrow.Rule.Slice.PartMut.{putMid}
-use Rattle.machine.specs.Checks.{limitsRefusal}
-use Rattle.machine.specs.Numbers.{builtIn}
+use Rattle.machine.specs.Torque.{machineOf}
 use Rattle.machine.specs.declared.Limits.{Limits}
 use Rattle.line.specs.Answers.{Answer, accepted, answerBy}
 use Rattle.line.specs.Blocks.{Call}
@@ -92,12 +91,12 @@ told-plan {m} {told} plan shown t s p e =
     }
 
 -- Demand 3 of calls that were run from a fresh planner, with what is told and shown behind them.
-pub demanded : {l : Limits} {m₀ m m′ answers′ plan plan′ : List ℕ} {calls : List Call} {told n : ℕ}
-    → limitsRefusal l ≡ 0 → Freshened m₀ l n m → Ran rowOf calls m m′ answers′ → ToldPlan m′ told plan plan′ → Demanded (builtIn l) calls told answers′ plan plan′
-demanded passed fresh ran t =
+pub demanded : {l : Limits} {loaded m₀ m m′ answers′ plan plan′ : List ℕ} {calls : List Call} {told : ℕ}
+    → Freshened m₀ l loaded 0 m → Ran rowOf calls m m′ answers′ → ToldPlan m′ told plan plan′ → Demanded (machineOf l loaded) calls told answers′ plan plan′
+demanded fresh ran t =
     record {
       answers = ran .answers;
       rows = ran .all-is;
-      demand = demand3 fresh (fresh .answer ∙ passed) (ran .called) (t .tells) (t .shows);
+      demand = demand3 fresh refl (ran .called) (t .tells) (t .shows);
       rest = t .rest;
     }

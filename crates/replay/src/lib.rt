@@ -4,20 +4,17 @@
 // is a take, any other number an add), moves X, Y, Z by two's complement, feed, radius, mark. A
 // take's other words play no part.
 ghost use mathlib.Core.Path.{_≡_};
-ghost use Prim.Native.Nat.{_*_, _/_, _≤_};
+ghost use Prim.Native.Nat.{_*_, _/_};
 ghost use lib.ListN.{length};
-ghost use Rattle.machine.specs.Checks.{limitsRefusal};
-ghost use Rattle.machine.specs.Numbers.{builtIn};
-ghost use Rattle.tape.specs.Tape.{limitsBytes};
 ghost use Rattle.tape.specs.Answers.{limitsMeans};
-ghost use Rattle.replay.specs.Trace.{callBytes, callsIn, readTrace, traceCalls, wholeCalls};
+ghost use Rattle.replay.specs.Trace.{callBytes, readTrace, wholeCalls};
 ghost use Rattle.replay.specs.Rows.{rowOf, rowSize};
-ghost use Rattle.replay.specs.Replays.{Demanded, Replays, planSize};
+ghost use Rattle.replay.specs.Replays.{Begun, Replays, planSize};
 ghost use Rattle.replay.specs.Runs.{Ran, ToldPlan};
 use calls::read_call;
 use calls::write_row;
+use display::Checked;
 use display::Refusal;
-use machine::Limits;
 use planner::NUMBERS;
 use planner::Planner;
 use tape::LIMITS_BYTES;
@@ -82,33 +79,34 @@ pub fn tell(memory: &[u64; NUMBERS], plan: &mut [u64]) -> u64
     told
 }
 
-// Runs the calls from a fresh planner, and tells how it stands at the end.
-fn run_all(trace: &[u8], l: Limits, answers: &mut [u64], plan: &mut [u64]) -> u64
-    requires { ⌜ (limitsRefusal l ≡ 0) × (limitsBytes ≤ length (now trace)) × (length (now answers) ≡ rowSize * callsIn (now trace)) × (length (now plan) ≡ planSize) ⌝ }
-    ensures { λ r. ⌜ Demanded (builtIn l) (traceCalls (now (trace .entry))) r (now (answers .exit)) (now (plan .entry)) (now (plan .exit)) ⌝ }
-{
-    let mut memory = [0u64; NUMBERS];
-    planner::fresh(&mut memory, l);
-    run(&trace[LIMITS_BYTES..], &mut memory, answers);
-    tell(&memory, plan)
-}
-
-// Runs a trace: `answers` gets a row for each call, the first numbers of `plan` the plan at the end,
-// and the number of blocks held is returned. Checks 9, 1, then 11 where a list has not its length:
-// `ROW` numbers a call, `PLAN` for the plan. A refusal changes neither list.
-pub fn replay(trace: &[u8], answers: &mut [u64], plan: &mut [u64]) -> Replayed
-    ensures { λ r. ⌜ Replays (now (trace .entry)) (now (answers .entry)) (now (plan .entry)) r (now (answers .exit)) (now (plan .exit)) ⌝ }
+// Makes a fresh planner of the limits of a trace and the steps that are loaded: 9, 1, then 14.
+fn begin(trace: &[u8], steps: &[u8], memory: &mut [u64; NUMBERS]) -> Checked
+    ensures { λ r. ⌜ Begun (now (trace .entry)) (now (steps .entry)) (now (memory .entry)) r (now (memory .exit)) ⌝ }
 {
     match read_head(trace) {
-        LimitsRead::Refused(why) => Replayed::Refused(why),
-        LimitsRead::Read(l) => {
+        LimitsRead::Refused(why) => Checked::Refused(why),
+        LimitsRead::Read(l) => planner::fresh(memory, l, steps),
+    }
+}
+
+// Runs a trace with the torque steps that are loaded, eight bytes, or none for the built-in steps: `answers` gets a row for
+// each call, the first numbers of `plan` the plan at the end, and the number of blocks held is returned. Checks 9, 1, 14, then
+// 11 where a list has not its length: `ROW` numbers a call, `PLAN` for the plan. A refusal changes neither list.
+pub fn replay(trace: &[u8], steps: &[u8], answers: &mut [u64], plan: &mut [u64]) -> Replayed
+    ensures { λ r. ⌜ Replays (now (trace .entry)) (now (steps .entry)) (now (answers .entry)) (now (plan .entry)) r (now (answers .exit)) (now (plan .exit)) ⌝ }
+{
+    let mut memory = [0u64; NUMBERS];
+    match begin(trace, steps, &mut memory) {
+        Checked::Refused(why) => Replayed::Refused(why),
+        Checked::Passed => {
             if answers.len() != ROW * ((trace.len() - LIMITS_BYTES) / CALL_BYTES) {
                 return Replayed::Refused(Refusal::List);
             }
             if plan.len() != PLAN {
                 return Replayed::Refused(Refusal::List);
             }
-            let told = run_all(trace, l, answers, plan);
+            run(&trace[LIMITS_BYTES..], &mut memory, answers);
+            let told = tell(&memory, plan);
             Replayed::Done(told)
         }
     }

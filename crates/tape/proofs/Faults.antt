@@ -34,7 +34,7 @@ drop-from s j {k = suc k} {n = suc n} h =
     drop-from s (suc j) {k = k} {n = n} (omega arith) ∙ ap (λ (i : ℕ). recordAt s i ∷ drop (suc k) (blocksFrom s (suc j) n)) e
 
 -- Two faults of which neither has a number.
-neither : (n p : ℕ) (f : Fault) → (n at p else f) .number ≡ 0 → (n ≡ 0) × (f .number ≡ 0)
+pub neither : (n p : ℕ) (f : Fault) → (n at p else f) .number ≡ 0 → (n ≡ 0) × (f .number ≡ 0)
 neither zero p f e = (refl, e)
 neither (suc n) p f e = absurd (omega arith)
 

@@ -11,13 +11,13 @@ use Rattle.machine.specs.declared.Machine.{Machine}
 use Rattle.display.specs.Display.{Fault}
 use Rattle.display.specs.declared.Refusal.{Refusal}
 use Rattle.display.proofs.Answers.{refusal-above}
-use Rattle.tape.specs.Answers.{mostBlocks, tapeRefusal}
+use Rattle.tape.specs.Answers.{mostBlocks}
 use Rattle.tape.specs.Tape.{recordsIn}
-use Rattle.tapeplan.specs.Planned.{MeasuredTape, SurveyedTape, plannedMeans, tapeMachine}
+use Rattle.tapeplan.specs.Planned.{MeasuredTape, SurveyedTape, plannedMeans, tapeMachine, wholeRefusal}
 use Rattle.tapeplan.specs.Sheet.{Measures, SheetAfter, over, rowSize, rowsIn, sheetSize}
 use Rattle.tapeplan.specs.declared.TapePlanned.{TapePlanned}
 use Rattle.tapeplan.specs.declared.TapePlanned.the-variants.{Planned, Refused}
-use Rattle.tapeplan.proofs.Answered.{plan-passed}
+use Rattle.tapeplan.proofs.Answered.{plan-passed, whole-passed}
 use Rattle.tapeplan.proofs.Plans.{accepted-records}
 use Rattle.tapeplan.proofs.Sheets.{row-same}
 
@@ -62,27 +62,27 @@ module _ (m : Machine) (s : List ℕ) where
         }
 
 -- the answer of planning decides
-module _ (s sheet : List ℕ) {rows before after : List ℕ} {r : TapePlanned} (v : SurveyedTape s rows before after r) where
-  pub measured-refused : (why : Refusal) (place : ℕ) → r ≡ Refused why place → MeasuredTape s sheet sheet before after (Refused why place)
+module _ (s loaded sheet : List ℕ) {rows before after : List ℕ} {r : TapePlanned} (v : SurveyedTape s loaded rows before after r) where
+  pub measured-refused : (why : Refusal) (place : ℕ) → r ≡ Refused why place → MeasuredTape s loaded sheet sheet before after (Refused why place)
   measured-refused why place is =
       let number = ap (λ (f : Fault). f .number) (sym (ap plannedMeans is) ∙ v .planned .fault) in
-      record { planned = rw is at (v .planned); sheet-after = sheet-kept (tapeMachine s) s (omega (arith, refusal-above why, number)) }
+      record { planned = rw is at (v .planned); sheet-after = sheet-kept (tapeMachine s loaded) s (omega (arith, refusal-above why, number)) }
 
   module _ (is : r ≡ Planned) where
-    passed : tapeRefusal s ≡ 0
-    passed = plan-passed s (length before) (ap (λ (f : Fault). f .number) (sym (v .planned .fault) ∙ ap plannedMeans is))
+    passed : wholeRefusal s loaded ≡ 0
+    passed = plan-passed s loaded (length before) (ap (λ (f : Fault). f .number) (sym (v .planned .fault) ∙ ap plannedMeans is))
 
     pub planned-few : recordsIn s ≤ mostBlocks
-    planned-few = accepted-records s passed
+    planned-few = accepted-records s (whole-passed s loaded passed .0)
 
     pub measured-planned : {sheet′ : List ℕ} {n : ℕ} → n ≡ recordsIn s → length rows ≡ sheetSize → length sheet ≡ sheetSize → sheet′ ≡ over (take (rowSize * n) rows) sheet
-        → MeasuredTape s sheet sheet′ before after Planned
+        → MeasuredTape s loaded sheet sheet′ before after Planned
     measured-planned {n} count long size copied =
         let none = ap (λ (f : Fault). f .number) (sym (v .planned .fault) ∙ ap plannedMeans is) in
         record {
           planned = rw is at (v .planned);
           sheet-after =
               rw copied (
-              sheet-copied (tapeMachine s) s rows sheet n none count (omega (arith, planned-few)) (size ∙ sym long) (v .measured passed)
+              sheet-copied (tapeMachine s loaded) s rows sheet n none count (omega (arith, planned-few)) (size ∙ sym long) (v .measured passed)
               );
         }

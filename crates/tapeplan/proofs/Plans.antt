@@ -17,51 +17,50 @@ use Rattle.machine.proofs.RampLaws.{numbers-rampable}
 use Rattle.machine.proofs.Spans.{spans-length}
 use Rattle.tape.specs.Tape.{recordAt, recordsIn, tapeBlocks}
 use Rattle.tape.specs.Answers.{mostBlocks, tapeRefusal}
-use Rattle.tape.proofs.Checks.{Head, head-passed, head-records}
+use Rattle.tape.proofs.Checks.{head-passed, head-records}
 use Rattle.tape.proofs.Faults.{length-blocks, tape-passed}
 use Rattle.tapeplan.specs.Planned.{tapeMachine, tapePlan, tapeSpans}
 use Rattle.tapeplan.proofs.Surveys.{cap-next, reach-is}
 
-module _ (s : List ℕ) (passed : tapeRefusal s ≡ 0) where
+-- an accepted tape has not more records than the most
+pub accepted-records : (s : List ℕ) → tapeRefusal s ≡ 0 → recordsIn s ≤ mostBlocks
+accepted-records s passed = head-records s (head-passed s (tape-passed s passed .0))
+
+-- whatever steps are loaded
+module _ (s loaded : List ℕ) (passed : tapeRefusal s ≡ 0) where
   abbrev m : Machine
-  m = tapeMachine s
-
-  head : Head s
-  head = head-passed s (tape-passed s passed .0)
-
-  pub accepted-records : recordsIn s ≤ mostBlocks
-  accepted-records = head-records s head
+  m = tapeMachine s loaded
 
   -- the plan has a number for each junction
-  spans-count : length (tapeSpans s) ≡ recordsIn s
+  spans-count : length (tapeSpans s loaded) ≡ recordsIn s
   spans-count = spans-length m (tapeBlocks s) ∙ length-blocks s
 
-  pub accepted-junctions : length (tapePlan s) ≡ recordsIn s + 1
-  accepted-junctions = omega (arith, plan-length 0 (tapeSpans s), spans-count)
+  pub accepted-junctions : length (tapePlan s loaded) ≡ recordsIn s + 1
+  accepted-junctions = omega (arith, plan-length 0 (tapeSpans s loaded), spans-count)
 
-  lawful : Lawful 0 (tapeSpans s) (tapePlan s)
-  lawful = plan-lawful 0 (tapeSpans s) zero-le
+  lawful : Lawful 0 (tapeSpans s loaded) (tapePlan s loaded)
+  lawful = plan-lawful 0 (tapeSpans s loaded) zero-le
 
   -- where a block begins, the plan is within its cap,
-  entered : (k : ℕ) → k < recordsIn s → numberAt (tapePlan s) k ≤ blockCap (m .limits) (recordAt s k)
+  entered : (k : ℕ) → k < recordsIn s → numberAt (tapePlan s loaded) k ≤ blockCap (m .limits) (recordAt s k)
   entered zero h = omega (arith, lawful .begins)
   entered (suc k) h =
       omega (arith, lawful .capped (suc k) (omega arith) (omega (arith, spans-count)), cap-next m s k h, junction-largest (m .limits) (recordAt s k) (recordAt s (suc k)) .has)
 
   -- and where it ends
-  left : (k : ℕ) → k < recordsIn s → numberAt (tapePlan s) (k + 1) ≤ blockCap (m .limits) (recordAt s k)
+  left : (k : ℕ) → k < recordsIn s → numberAt (tapePlan s loaded) (k + 1) ≤ blockCap (m .limits) (recordAt s k)
   left k h = rw (add-one k) (go (decLt (suc k) (recordsIn s)))
     where
-      go : Dec (suc k < recordsIn s) → numberAt (tapePlan s) (suc k) ≤ blockCap (m .limits) (recordAt s k)
+      go : Dec (suc k < recordsIn s) → numberAt (tapePlan s loaded) (suc k) ≤ blockCap (m .limits) (recordAt s k)
       go (yes g) =
           omega (arith, lawful .capped (suc k) (omega arith) (omega (arith, spans-count)), cap-next m s k g, junction-largest (m .limits) (recordAt s k) (recordAt s (suc k)) .has)
       go (no g) =
-          let last : suc k ≡ length (tapeSpans s) = omega (arith, spans-count) in
-          omega (arith, ap (numberAt (tapePlan s)) last, lawful .ends)
+          let last : suc k ≡ length (tapeSpans s loaded) = omega (arith, spans-count) in
+          omega (arith, ap (numberAt (tapePlan s loaded)) last, lawful .ends)
 
   -- so a ramp exists between them
-  pub accepted-ramps : (k : ℕ) → k < recordsIn s → Rampable (numbersOf m (recordAt s k)) (numberAt (tapePlan s) k) (numberAt (tapePlan s) (k + 1))
+  pub accepted-ramps : (k : ℕ) → k < recordsIn s → Rampable (numbersOf m (recordAt s k)) (numberAt (tapePlan s loaded) k) (numberAt (tapePlan s loaded) (k + 1))
   accepted-ramps k h =
-      numbers-rampable m (recordAt s k) (numberAt (tapePlan s) k) (numberAt (tapePlan s) (k + 1)) (tape-passed s passed .1 k h) (entered k h) (left k h)
+      numbers-rampable m (recordAt s k) (numberAt (tapePlan s loaded) k) (numberAt (tapePlan s loaded) (k + 1)) (tape-passed s passed .1 k h) (entered k h) (left k h)
       (omega (arith, lawful .falls k (omega (arith, spans-count)), reach-is m s k h))
       (omega (arith, lawful .rises k (omega (arith, spans-count)), reach-is m s k h))

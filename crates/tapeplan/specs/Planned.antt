@@ -7,30 +7,45 @@ use lib.ListN.{length}
 use Rattle.profile.specs.Line.{Span, Highest}
 use Rattle.profile.specs.Passes.{planOf}
 use mathlib.Core.Bool.{cond}
-use Rattle.display.specs.Display.{refusalNumber, Fault, byNumber, _at_, _else_}
-use Rattle.tape.specs.Answers.{tapeFault, tapeRefusal}
+use Rattle.display.specs.Display.{refusalNumber, Fault, byNumber, _then_, _at_, _else_}
+use Rattle.tape.specs.Answers.{faultFrom, headRefusal}
 use Rattle.machine.specs.Line.{spansOf}
-use Rattle.machine.specs.Numbers.{builtIn}
+use Rattle.machine.specs.Torque.{machineOf, stepsRefusal}
 use Rattle.machine.specs.declared.Machine.{Machine}
 use Rattle.tape.specs.Tape.{recordsIn, tapeLimits, tapeBlocks}
 use Rattle.tapeplan.specs.Sheet.{Measures, SheetAfter}
 use Rattle.tapeplan.specs.declared.TapePlanned.{TapePlanned}
 use Rattle.tapeplan.specs.declared.TapePlanned.the-variants.{Planned, Refused}
 
--- the machine that a tape is for, and the tape's blocks as a profile sees them
-abbrev pub tapeMachine : List ℕ → Machine
-tapeMachine s = builtIn (tapeLimits s)
+-- the machine that a tape is planned for with loaded torque steps, and the tape's blocks as a profile sees them
+abbrev pub tapeMachine : (s loaded : List ℕ) → Machine
+tapeMachine s loaded = machineOf (tapeLimits s) loaded
 
-abbrev pub tapeSpans : List ℕ → List Span
-tapeSpans s = spansOf (tapeMachine s) (tapeBlocks s)
+abbrev pub tapeSpans : (s loaded : List ℕ) → List Span
+tapeSpans s loaded = spansOf (tapeMachine s loaded) (tapeBlocks s)
 
 -- the plan of a whole tape, from rest to rest
-abbrev pub tapePlan : List ℕ → List ℕ
-tapePlan s = planOf 0 (tapeSpans s)
+abbrev pub tapePlan : (s loaded : List ℕ) → List ℕ
+tapePlan s loaded = planOf 0 (tapeSpans s loaded)
 
--- the tape's checks, then 11 where the lent list is not exactly one longer than the blocks
-unfoldable pub planFault : (s : List ℕ) (lent : ℕ) → Fault
-planFault s lent = tapeFault s else (cond (eqb lent (recordsIn s + 1)) 0 11 at 0)
+-- the whole tape's checks: 10, 9 and 1 of the tape, and 14 of the loaded steps, which come before its records,
+abbrev pub startRefusal : (s loaded : List ℕ) → ℕ
+startRefusal s loaded = headRefusal s then stepsRefusal loaded
+
+-- and then the records in turn
+unfoldable pub wholeFault : (s loaded : List ℕ) → Fault
+wholeFault s loaded = startRefusal s loaded at 0 else faultFrom 1 (tapeBlocks s)
+
+-- its number and its place
+abbrev pub wholeRefusal : (s loaded : List ℕ) → ℕ
+wholeRefusal s loaded = wholeFault s loaded .number
+
+abbrev pub wholePlace : (s loaded : List ℕ) → ℕ
+wholePlace s loaded = wholeFault s loaded .place
+
+-- these checks, then 11 where the lent list is not exactly one longer than the blocks
+unfoldable pub planFault : (s loaded : List ℕ) (lent : ℕ) → Fault
+planFault s loaded lent = wholeFault s loaded else (cond (eqb lent (recordsIn s + 1)) 0 11 at 0)
 
 -- number and place of each answer
 abbrev pub plannedMeans : TapePlanned → Fault
@@ -39,24 +54,24 @@ plannedMeans (Refused why place) = refusalNumber why at place
 
 -- the answer's number and place, and the list: the plan from rest to rest, which no lawful profile is above anywhere, or
 -- what it held
-pub record PlannedTape (s before after : List ℕ) (r : TapePlanned) : Type 0 where
-  pub fault : plannedMeans r ≡ planFault s (length before)
-  pub list : after ≡ byNumber (planFault s (length before) .number) (tapePlan s) before
-  pub highest : planFault s (length before) .number ≡ 0 → Highest 0 (tapeSpans s) after
+pub record PlannedTape (s loaded before after : List ℕ) (r : TapePlanned) : Type 0 where
+  pub fault : plannedMeans r ≡ planFault s loaded (length before)
+  pub list : after ≡ byNumber (planFault s loaded (length before) .number) (tapePlan s loaded) before
+  pub highest : planFault s loaded (length before) .number ≡ 0 → Highest 0 (tapeSpans s loaded) after
 
 -- the same, and a sheet has what is measured of the blocks of a tape that passes, as far as it has rows
-pub record SurveyedTape (s sheet before after : List ℕ) (r : TapePlanned) : Type 0 where
-  pub planned : PlannedTape s before after r
-  pub measured : tapeRefusal s ≡ 0 → Measures (tapeMachine s) s sheet (recordsIn s)
+pub record SurveyedTape (s loaded sheet before after : List ℕ) (r : TapePlanned) : Type 0 where
+  pub planned : PlannedTape s loaded before after r
+  pub measured : wholeRefusal s loaded ≡ 0 → Measures (tapeMachine s loaded) s sheet (recordsIn s)
 
 -- the plan of a tape, and the lent sheet before and after it
-pub record MeasuredTape (s sheet sheet′ before after : List ℕ) (r : TapePlanned) : Type 0 where
-  pub planned : PlannedTape s before after r
-  pub sheet-after : SheetAfter (tapeMachine s) s (planFault s (length before) .number) sheet sheet′
+pub record MeasuredTape (s loaded sheet sheet′ before after : List ℕ) (r : TapePlanned) : Type 0 where
+  pub planned : PlannedTape s loaded before after r
+  pub sheet-after : SheetAfter (tapeMachine s loaded) s (planFault s loaded (length before) .number) sheet sheet′
 
--- Demand 3 of an accepted tape, from rest to rest, in a list one longer than its blocks: the tape is planned, the list is the plan of its
--- blocks, so a lawful profile exists, the list is one, and no lawful profile is above it anywhere
-pub record TapeDemand3 (s after : List ℕ) (r : TapePlanned) : Type 0 where
+-- Demand 3 of an accepted tape with accepted torque steps, from rest to rest, in a list one longer than its blocks: the tape is planned, the list
+-- is the plan of its blocks, so a lawful profile exists, the list is one, and no lawful profile is above it anywhere
+pub record TapeDemand3 (s loaded after : List ℕ) (r : TapePlanned) : Type 0 where
   pub answered : r ≡ Planned
-  pub plan : after ≡ tapePlan s
-  pub highest : Highest 0 (tapeSpans s) after
+  pub plan : after ≡ tapePlan s loaded
+  pub highest : Highest 0 (tapeSpans s loaded) after

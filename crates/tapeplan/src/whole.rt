@@ -2,7 +2,8 @@
 ghost use mathlib.Core.Path.{_≡_};
 ghost use lib.ListN.{length};
 ghost use Rattle.tape.specs.Answers.{headRefusal};
-ghost use Rattle.tapeplan.specs.Planned.{MeasuredTape, PlannedTape, SurveyedTape, tapeMachine};
+ghost use Rattle.tape.specs.Tape.{tapeLimits};
+ghost use Rattle.tapeplan.specs.Planned.{MeasuredTape, PlannedTape, SurveyedTape};
 ghost use Rattle.tapeplan.specs.Sheet.{sheetSize};
 use crate::TapePlanned;
 use crate::passes::plan_into;
@@ -11,19 +12,30 @@ use crate::sheet::SHEET;
 use crate::sheet::copy;
 use crate::survey::survey;
 use display::Refusal;
-use machine::Machine;
-use machine::torque::built_in;
+use machine::Limits;
+use machine::MachineAnswer;
+use machine::torque::with_steps;
 use tape::LimitsRead;
 use tape::MOST_BLOCKS;
 use tape::TapeCheck;
 use tape::records::records_in;
 use tape::whole::read_head;
 
-// Plans the records of a tape whose limits have been read, on that machine: each record in turn, then 11.
-fn plan_records(s: &[u8], m: Machine, sheet: &mut [u64], list: &mut [u64]) -> TapePlanned
-    requires { ⌜ (headRefusal (now s) ≡ 0) × (m ≡ tapeMachine (now s)) ⌝ }
-    ensures { λ r. ⌜ SurveyedTape (now (s .entry)) (now (sheet .exit)) (now (list .entry)) (now (list .exit)) r ⌝ }
+// Plans the records of a tape whose limits have been read, with the steps that are loaded: 14, each record in turn, then 11.
+fn plan_records(
+    s: &[u8],
+    l: Limits,
+    steps: &[u8],
+    sheet: &mut [u64],
+    list: &mut [u64],
+) -> TapePlanned
+    requires { ⌜ (headRefusal (now s) ≡ 0) × (l ≡ tapeLimits (now s)) ⌝ }
+    ensures { λ r. ⌜ SurveyedTape (now (s .entry)) (now (steps .entry)) (now (sheet .exit)) (now (list .entry)) (now (list .exit)) r ⌝ }
 {
+    let m = match with_steps(l, steps) {
+        MachineAnswer::Refused(why) => return TapePlanned::Refused(why, 0),
+        MachineAnswer::Of(m) => m,
+    };
     let mut caps = [0u64; MOST_BLOCKS];
     let mut reaches = [0u64; MOST_BLOCKS];
     match survey(s, m, sheet, &mut caps, &mut reaches) {
@@ -39,22 +51,22 @@ fn plan_records(s: &[u8], m: Machine, sheet: &mut [u64], list: &mut [u64]) -> Ta
 }
 
 // Plans a tape as `plan_tape` does, and fills a sheet with a row for each of its blocks, as far as it has rows.
-fn plan_surveyed(s: &[u8], sheet: &mut [u64], list: &mut [u64]) -> TapePlanned
-    ensures { λ r. ⌜ SurveyedTape (now (s .entry)) (now (sheet .exit)) (now (list .entry)) (now (list .exit)) r ⌝ }
+fn plan_surveyed(s: &[u8], steps: &[u8], sheet: &mut [u64], list: &mut [u64]) -> TapePlanned
+    ensures { λ r. ⌜ SurveyedTape (now (s .entry)) (now (steps .entry)) (now (sheet .exit)) (now (list .entry)) (now (list .exit)) r ⌝ }
 {
     match read_head(s) {
         LimitsRead::Refused(why) => TapePlanned::Refused(why, 0),
-        LimitsRead::Read(l) => plan_records(s, built_in(l), sheet, list),
+        LimitsRead::Read(l) => plan_records(s, l, steps, sheet, list),
     }
 }
 
 // Plans a tape with a sheet of its own, and copies the rows of the tape's blocks where it is planned.
-fn plan_copied(s: &[u8], sheet: &mut [u64], list: &mut [u64]) -> TapePlanned
+fn plan_copied(s: &[u8], steps: &[u8], sheet: &mut [u64], list: &mut [u64]) -> TapePlanned
     requires { ⌜ length (now sheet) ≡ sheetSize ⌝ }
-    ensures { λ r. ⌜ MeasuredTape (now (s .entry)) (now (sheet .entry)) (now (sheet .exit)) (now (list .entry)) (now (list .exit)) r ⌝ }
+    ensures { λ r. ⌜ MeasuredTape (now (s .entry)) (now (steps .entry)) (now (sheet .entry)) (now (sheet .exit)) (now (list .entry)) (now (list .exit)) r ⌝ }
 {
     let mut rows = [0u64; SHEET];
-    match plan_surveyed(s, &mut rows, list) {
+    match plan_surveyed(s, steps, &mut rows, list) {
         TapePlanned::Refused(why, place) => TapePlanned::Refused(why, place),
         TapePlanned::Planned => {
             let n = records_in(s);
@@ -66,17 +78,23 @@ fn plan_copied(s: &[u8], sheet: &mut [u64], list: &mut [u64]) -> TapePlanned
 
 // Plans a tape as `plan_tape` does, and stores what is measured of each of its blocks, a row for each, at the beginning of
 // the lent sheet; on a refusal the sheet too holds what it held.
-pub fn plan_measured(s: &[u8], sheet: &mut [u64; SHEET], list: &mut [u64]) -> TapePlanned
-    ensures { λ r. ⌜ MeasuredTape (now (s .entry)) (now (sheet .entry)) (now (sheet .exit)) (now (list .entry)) (now (list .exit)) r ⌝ }
+pub fn plan_measured(
+    s: &[u8],
+    steps: &[u8],
+    sheet: &mut [u64; SHEET],
+    list: &mut [u64],
+) -> TapePlanned
+    ensures { λ r. ⌜ MeasuredTape (now (s .entry)) (now (steps .entry)) (now (sheet .entry)) (now (sheet .exit)) (now (list .entry)) (now (list .exit)) r ⌝ }
 {
-    plan_copied(s, sheet, list)
+    plan_copied(s, steps, sheet, list)
 }
 
 // Fills the lent list with the highest lawful profile of the tape's blocks from rest to rest, one number for each
-// junction, (µm/s)². Checks 10, 9, 1, each record in turn, 11; on a refusal the list holds what it held.
-pub fn plan_tape(s: &[u8], list: &mut [u64]) -> TapePlanned
-    ensures { λ r. ⌜ PlannedTape (now (s .entry)) (now (list .entry)) (now (list .exit)) r ⌝ }
+// junction, (µm/s)², on the machine of the tape's limits and the torque steps that are loaded, eight bytes, or none for the
+// built-in steps. Checks 10, 9, 1, 14, each record in turn, 11; on a refusal the list holds what it held.
+pub fn plan_tape(s: &[u8], steps: &[u8], list: &mut [u64]) -> TapePlanned
+    ensures { λ r. ⌜ PlannedTape (now (s .entry)) (now (steps .entry)) (now (list .entry)) (now (list .exit)) r ⌝ }
 {
     let mut sheet = [0u64; 0];
-    plan_surveyed(s, &mut sheet, list)
+    plan_surveyed(s, steps, &mut sheet, list)
 }

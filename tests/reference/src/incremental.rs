@@ -5,7 +5,7 @@
 //! while such a number changes; a take does no pass over the line.
 
 use crate::line::{LookAhead, PLACES};
-use crate::machine::{check_block, check_limits, Block, Given, Limits, Numbers};
+use crate::machine::{check_block, Block, Given, Limits, Machine, Numbers};
 use crate::quick::{junction_cap, numbers_of, ramp_of};
 use crate::refusal::Refusal;
 
@@ -43,7 +43,7 @@ const VACANT: Place = Place {
 /// Planner with a ring of 64 places.
 #[derive(Clone)]
 pub struct Planner {
-    limits: Limits,
+    machine: Machine,
     places: [Place; PLACES],
     /// Place of the first block held.
     first: usize,
@@ -69,7 +69,7 @@ impl Planner {
     fn join(&mut self, new: usize) {
         let (before, after) = (self.place(new - 1), self.place(new));
         let known = (&before.block, &before.numbers);
-        let cap = junction_cap(&self.limits, known, (&after.block, &after.numbers));
+        let cap = junction_cap(&self.machine.limits, known, (&after.block, &after.numbers));
         self.place_mut(new - 1).cap = cap;
         for k in (0..new).rev() {
             let next = self.place(k + 1);
@@ -84,10 +84,9 @@ impl Planner {
 }
 
 impl LookAhead for Planner {
-    fn fresh(limits: &Limits) -> Result<Planner, Refusal> {
-        check_limits(limits)?;
+    fn fresh(limits: &Limits, steps: &[u8]) -> Result<Planner, Refusal> {
         Ok(Planner {
-            limits: *limits,
+            machine: Machine::of(limits, steps)?,
             places: [VACANT; PLACES],
             first: 0,
             held: 0,
@@ -103,7 +102,7 @@ impl LookAhead for Planner {
         let new = self.held;
         *self.place_mut(new) = Place {
             block: *block,
-            numbers: numbers_of(&self.limits, block),
+            numbers: numbers_of(&self.machine, block),
             ..VACANT
         };
         self.held += 1;

@@ -1,6 +1,6 @@
 //! The line of blocks, drawn from the calls and their arguments alone.
 
-use crate::machine::{check_block, check_limits, given, Block, Given, Limits};
+use crate::machine::{check_block, given, Block, Given, Limits, Machine};
 use crate::plan::{highest, Course};
 use crate::refusal::Refusal;
 
@@ -9,8 +9,9 @@ pub const PLACES: usize = 64;
 
 /// The calls of a planner that holds up to 64 blocks.
 pub trait LookAhead: Sized {
-    /// A planner with no block and committed speed 0, or refusal 1.
-    fn fresh(limits: &Limits) -> Result<Self, Refusal>;
+    /// A planner with no block and committed speed 0 that keeps the limits and
+    /// the loaded torque steps, none if the list is empty: check 1, then 14.
+    fn fresh(limits: &Limits, steps: &[u8]) -> Result<Self, Refusal>;
 
     /// Puts a block last, or refuses by the first of 2 to 7 that holds.
     fn add(&mut self, block: &Block) -> Result<(), Refusal>;
@@ -26,10 +27,11 @@ pub trait LookAhead: Sized {
     fn shown(&self, list: &mut [u64]) -> Result<(), Refusal>;
 }
 
-/// The line: limits, blocks in order, committed squared speed in (µm/s)².
+/// The line: limits and torque steps, blocks in order, committed squared speed
+/// in (µm/s)².
 #[derive(Clone, Debug, PartialEq, Eq)]
 pub struct Line {
-    limits: Limits,
+    machine: Machine,
     blocks: Vec<Block>,
     committed: u64,
 }
@@ -37,13 +39,12 @@ pub struct Line {
 impl Line {
     /// The line's highest lawful profile, or zeros if it had none.
     pub fn profile(&self) -> Vec<u64> {
-        let course = Course::of(&self.limits, &self.blocks, self.committed);
-        highest(&course).unwrap_or_else(|| vec![0; self.blocks.len() + 1])
+        highest(&self.course()).unwrap_or_else(|| vec![0; self.blocks.len() + 1])
     }
 
     /// The course that the line's profiles must keep to.
     pub fn course(&self) -> Course {
-        Course::of(&self.limits, &self.blocks, self.committed)
+        Course::of(&self.machine, &self.blocks, self.committed)
     }
 
     /// The blocks in the order in which they will be given out.
@@ -58,10 +59,9 @@ impl Line {
 }
 
 impl LookAhead for Line {
-    fn fresh(limits: &Limits) -> Result<Line, Refusal> {
-        check_limits(limits)?;
+    fn fresh(limits: &Limits, steps: &[u8]) -> Result<Line, Refusal> {
         Ok(Line {
-            limits: *limits,
+            machine: Machine::of(limits, steps)?,
             blocks: Vec::new(),
             committed: 0,
         })
@@ -83,7 +83,7 @@ impl LookAhead for Line {
         let profile = self.profile();
         let block = self.blocks.remove(0);
         self.committed = profile[1];
-        Ok(given(&self.limits, &block, profile[0], profile[1]))
+        Ok(given(&self.machine, &block, profile[0], profile[1]))
     }
 
     fn told(&self) -> usize {

@@ -3,27 +3,29 @@
 use std::io::{self, Read, Write};
 
 use crate::line::{Line, LookAhead};
-use crate::machine::{given, Given};
+use crate::machine::{given, Block, Given, Machine};
+use crate::plan::from_rest;
 use crate::refusal::{Fault, Refusal};
-use crate::tape::{read_limits, read_tape, Tape, LIMITS_BYTES};
+use crate::tape::{read_limits, read_to_plan, LIMITS_BYTES};
 use crate::trace::{read_call, Call, CALL_BYTES};
 
 /// First line of a listing, without its line feed.
 pub const HEADER: &str = "mark length accel entry peak exit up cruise down";
 
-/// Text of `planlist` for a tape: the listing, or the one refusal line.
-pub fn planlist(tape: &[u8]) -> String {
-    match read_tape(tape) {
-        Ok(tape) => listing(&tape),
+/// Text of `planlist` for a tape under loaded torque steps, none if the list is
+/// empty: the listing, or the one refusal line.
+pub fn planlist(tape: &[u8], steps: &[u8]) -> String {
+    match read_to_plan(tape, steps) {
+        Ok((machine, blocks)) => listing(&machine, &blocks),
         Err(fault) => fault_line(&fault),
     }
 }
 
 /// Header and one line for each block of an accepted tape, in tape order.
-fn listing(tape: &Tape) -> String {
-    let plan = tape.plan();
-    let line = |k: usize| given_line(&given(&tape.limits, &tape.blocks[k], plan[k], plan[k + 1]));
-    let lines: String = (0..tape.blocks.len()).map(line).collect();
+fn listing(machine: &Machine, blocks: &[Block]) -> String {
+    let plan = from_rest(machine, blocks);
+    let line = |k: usize| given_line(&given(machine, &blocks[k], plan[k], plan[k + 1]));
+    let lines: String = (0..blocks.len()).map(line).collect();
     format!("{HEADER}\n{lines}")
 }
 
@@ -50,24 +52,30 @@ pub fn fault_line(fault: &Fault) -> String {
     format!("refused {} at {}\n", fault.refusal.number(), fault.place)
 }
 
-/// Text of `planreplay` for a whole trace, by the line of blocks.
-pub fn planreplay(trace: &[u8]) -> String {
-    planreplay_by::<Line>(trace)
+/// Text of `planreplay` for a whole trace under loaded torque steps, none if
+/// the list is empty, by the line of blocks.
+pub fn planreplay(trace: &[u8], steps: &[u8]) -> String {
+    planreplay_by::<Line>(trace, steps)
 }
 
-/// Text of `planreplay` for a whole trace, by any planner.
-pub fn planreplay_by<P: LookAhead>(trace: &[u8]) -> String {
+/// Text of `planreplay` for a whole trace under loaded steps, by any planner.
+pub fn planreplay_by<P: LookAhead>(trace: &[u8], steps: &[u8]) -> String {
     let mut text = Vec::new();
-    replay::<P>(&mut { trace }, &mut text).expect("a list of bytes takes every write");
+    replay::<P>(&mut { trace }, steps, &mut text).expect("a list of bytes takes every write");
     String::from_utf8(text).expect("digits, letters and spaces")
 }
 
 /// Reads a trace of any length and writes a line for each call, then the
-/// number held and the plan. Memory does not grow with the trace.
-pub fn replay<P: LookAhead>(input: &mut impl Read, output: &mut impl Write) -> io::Result<()> {
+/// number held and the plan. Refused limits, by 9 or 1, or then refused steps,
+/// by 14, have the refusal line alone. Memory does not grow with the trace.
+pub fn replay<P: LookAhead>(
+    input: &mut impl Read,
+    steps: &[u8],
+    output: &mut impl Write,
+) -> io::Result<()> {
     let mut head = [0; LIMITS_BYTES];
     let got = read_most(input, &mut head)?;
-    match read_limits(&head[..got]).and_then(|limits| P::fresh(&limits)) {
+    match read_limits(&head[..got]).and_then(|limits| P::fresh(&limits, steps)) {
         Err(refusal) => write!(output, "{}", fault_line(&refusal.at_no_record())),
         Ok(mut planner) => {
             replay_calls(&mut planner, input, output)?;

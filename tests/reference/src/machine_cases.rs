@@ -1,4 +1,5 @@
-//! Cases for the machine's calls: limits and two blocks, and what is answered.
+//! Cases for the machine's calls: limits, two blocks and loaded torque steps,
+//! and what is answered.
 
 use std::fmt::Display;
 use std::ops::RangeInclusive;
@@ -6,23 +7,45 @@ use std::ops::RangeInclusive;
 use crate::generate::{
     faulty_block, faulty_limits, limits, machine_m, path, tight_path, tiny_limits, BLOCK_FAULTS,
 };
-use crate::machine::{check_block, check_limits, junction_cap, range, Block, Limits, Numbers};
+use crate::machine::{check_block, check_limits, junction_cap, range};
+use crate::machine::{Block, Limits, Machine, Numbers};
 use crate::refusal::Refusal;
 use crate::rng::Rng;
+use crate::step_cases;
 
-/// Numbers of a case in text: nine limits and two blocks of six fields.
+/// Numbers of a case in text before its loaded steps: nine limits and two
+/// blocks of six fields.
 const WORDS: usize = 21;
 
-/// Limits and two blocks, one after the other.
-#[derive(Clone, Copy, Debug, PartialEq, Eq)]
+/// Limits, two blocks, one after the other, and the list of loaded torque
+/// steps, empty if none are.
+#[derive(Clone, Debug, PartialEq, Eq)]
 pub struct Case {
     pub limits: Limits,
     pub before: Block,
     pub after: Block,
+    pub steps: Vec<u8>,
 }
 
 impl Case {
-    /// The case as a line of words of 64 bits in two's complement.
+    /// A case without loaded steps.
+    fn of(limits: Limits, before: Block, after: Block) -> Case {
+        Case {
+            limits,
+            before,
+            after,
+            steps: Vec::new(),
+        }
+    }
+
+    /// The case with this list of loaded steps.
+    pub(crate) fn with(self, steps: &[u8]) -> Case {
+        let steps = steps.to_vec();
+        Case { steps, ..self }
+    }
+
+    /// The case as a line of words of 64 bits in two's complement, and one more
+    /// for each byte of the loaded steps.
     pub fn line(&self) -> String {
         let l = &self.limits;
         let mut words: Vec<i64> = Vec::with_capacity(WORDS);
@@ -38,6 +61,7 @@ impl Case {
             words.extend(block.moves);
             words.extend([block.feed, block.radius, block.mark].map(|w| w as i64));
         }
+        words.extend(self.steps.iter().map(|step| i64::from(*step)));
         spaced(&words)
     }
 
@@ -47,7 +71,7 @@ impl Case {
             .split(' ')
             .map(|w| w.parse().expect("a word"))
             .collect();
-        assert_eq!(words.len(), WORDS);
+        let steps = words[WORDS..].iter().map(|step| u8::try_from(*step));
         let three = |k: usize| [words[k] as u64, words[k + 1] as u64, words[k + 2] as u64];
         let [jump, chord, tick] = three(6);
         let block = |k: usize| Block {
@@ -66,30 +90,40 @@ impl Case {
             },
             before: block(9),
             after: block(15),
+            steps: steps.collect::<Result<_, _>>().expect("bytes"),
         }
     }
 
     /// The answer as a line: the numbers of the first block, those of the
     /// second, and the junction cap between them, or each one's refusal.
     pub fn answer(&self) -> String {
-        let numbers = |block| shown(self.checked(&[block]).map(|()| self.numbers(block)));
-        let cap = self
-            .checked(&[&self.before, &self.after])
-            .map(|()| junction_cap(&self.limits, &self.before, &self.after));
-        let parts = [numbers(&self.before), numbers(&self.after), shown(cap)];
+        let numbers = |block| shown(self.numbers(block));
+        let parts = [
+            numbers(&self.before),
+            numbers(&self.after),
+            shown(self.cap()),
+        ];
         parts.join(" | ")
     }
 
-    /// Refusal 1, then 2 to 6 of each block in turn.
-    fn checked(&self, blocks: &[&Block]) -> Result<(), Refusal> {
-        check_limits(&self.limits)?;
-        blocks.iter().try_for_each(|block| check_block(block))
+    /// Length, acceleration, reach and cap of a block, or the first refusal of
+    /// 1, 14 and 2 to 6.
+    fn numbers(&self, block: &Block) -> Result<String, Refusal> {
+        let machine = Machine::of(&self.limits, &self.steps)?;
+        check_block(block)?;
+        let numbers = Numbers::of(&machine, block);
+        let told = [numbers.length, numbers.accel, numbers.reach, numbers.cap];
+        Ok(spaced(&told))
     }
 
-    /// Length, acceleration, reach and cap of a block that passed.
-    fn numbers(&self, block: &Block) -> String {
-        let numbers = Numbers::of(&self.limits, block);
-        spaced(&[numbers.length, numbers.accel, numbers.reach, numbers.cap])
+    /// Junction cap between the blocks, (µm/s)², or the first refusal of 1 and
+    /// 2 to 6 of each block in turn. It knows no acceleration, so loaded steps
+    /// play no part.
+    fn cap(&self) -> Result<u64, Refusal> {
+        check_limits(&self.limits)?;
+        check_block(&self.before)?;
+        check_block(&self.after)?;
+        Ok(junction_cap(&self.limits, &self.before, &self.after))
     }
 }
 
@@ -107,7 +141,7 @@ fn shown<T: Display>(answer: Result<T, Refusal>) -> String {
     }
 }
 
-/// All cases, in the order of the groups below.
+/// All cases, in the order of the groups below, then those with loaded steps.
 pub fn cases() -> Vec<Case> {
     let mut rng = Rng::new(3);
     let mut all = document();
@@ -121,6 +155,7 @@ pub fn cases() -> Vec<Case> {
     all.extend((0..150).map(|_| along_a_path(&mut rng)));
     all.extend((0..100).map(|_| anywhere(&mut rng)));
     all.extend((0..60).map(|_| along_tight_curves(&mut rng)));
+    all.extend(step_cases::cases());
     all
 }
 
@@ -135,17 +170,13 @@ pub fn block(x: i64, y: i64, z: i64) -> Block {
 }
 
 /// The first block of every pair of which only the second matters.
-fn east() -> Block {
+pub(crate) fn east() -> Block {
     block(1_000, 0, 0)
 }
 
 /// A pair on machine M.
-fn on_m(before: Block, after: Block) -> Case {
-    Case {
-        limits: machine_m(),
-        before,
-        after,
-    }
+pub(crate) fn on_m(before: Block, after: Block) -> Case {
+    Case::of(machine_m(), before, after)
 }
 
 /// Document 01's proof cases, with document 02's chord caps.
@@ -334,34 +365,22 @@ fn faults(rng: &mut Rng) -> Vec<Case> {
         cases.push(on_m(bad, east()));
         cases.push(on_m(east(), bad));
         cases.push(on_m(bad, other));
-        cases.push(Case {
-            limits: faulty_limits(rng),
-            before: bad,
-            after: east(),
-        });
+        cases.push(Case::of(faulty_limits(rng), bad, east()));
     }
     cases
 }
 
 /// Two blocks that follow each other on a path.
-fn along_a_path(rng: &mut Rng) -> Case {
+pub(crate) fn along_a_path(rng: &mut Rng) -> Case {
     let limits = limits(rng);
     let blocks = path(rng, 2);
-    Case {
-        limits,
-        before: blocks[0],
-        after: blocks[1],
-    }
+    Case::of(limits, blocks[0], blocks[1])
 }
 
 /// Two blocks that follow each other on a path over tight curves.
 fn along_tight_curves(rng: &mut Rng) -> Case {
     let (limits, blocks) = tight_path(rng, 2);
-    Case {
-        limits,
-        before: blocks[0],
-        after: blocks[1],
-    }
+    Case::of(limits, blocks[0], blocks[1])
 }
 
 /// Limits and blocks with each field anywhere in its range.
@@ -371,11 +390,8 @@ fn anywhere(rng: &mut Rng) -> Case {
     } else {
         limits(rng)
     };
-    Case {
-        limits,
-        before: any_block(rng),
-        after: any_block(rng),
-    }
+    let before = any_block(rng);
+    Case::of(limits, before, any_block(rng))
 }
 
 /// A block with each field anywhere in its range.

@@ -1,6 +1,6 @@
 //! Lawful profiles and the plan: the lawful profile that is highest everywhere.
 
-use crate::machine::{junction_cap, Block, Limits, Numbers};
+use crate::machine::{junction_cap, Block, Machine, Numbers};
 
 /// What a profile of n blocks must keep to, all in (µm/s)².
 #[derive(Clone, Debug, PartialEq, Eq)]
@@ -15,9 +15,9 @@ pub struct Course {
 
 impl Course {
     /// Course of a line of checked blocks with a committed squared speed.
-    pub fn of(limits: &Limits, blocks: &[Block], committed: u64) -> Course {
-        let cap = |pair: &[Block]| junction_cap(limits, &pair[0], &pair[1]);
-        let reach = |block: &Block| Numbers::of(limits, block).reach;
+    pub fn of(machine: &Machine, blocks: &[Block], committed: u64) -> Course {
+        let cap = |pair: &[Block]| junction_cap(&machine.limits, &pair[0], &pair[1]);
+        let reach = |block: &Block| Numbers::of(machine, block).reach;
         Course {
             committed,
             caps: blocks.windows(2).map(cap).collect(),
@@ -63,6 +63,12 @@ pub fn highest(course: &Course) -> Option<Vec<u64>> {
     let brake = backward(course);
     let profile = forward(course, &brake);
     lawful(course, &profile).then_some(profile)
+}
+
+/// The plan of checked blocks from rest to rest, (µm/s)².
+pub fn from_rest(machine: &Machine, blocks: &[Block]) -> Vec<u64> {
+    let course = Course::of(machine, blocks, 0);
+    highest(&course).expect("all zeros is lawful from rest to rest")
 }
 
 /// Greatest number at each junction with regard to the junctions after it.

@@ -2,17 +2,19 @@
 //!
 //! Each function gives what its namesake in `machine` finds by search.
 
-use crate::machine::{chord_bound, parts, torque_percent, torque_step};
-use crate::machine::{Block, Limits, Numbers, Ramp};
+use crate::machine::{chord_bound, parts, torque_step};
+use crate::machine::{Block, Limits, Machine, Numbers, Ramp};
 use crate::plan::{highest, Course};
 
 /// All numbers of a block that passes checks 2 to 6.
-pub fn numbers_of(limits: &Limits, block: &Block) -> Numbers {
+pub fn numbers_of(machine: &Machine, block: &Block) -> Numbers {
+    let limits = &machine.limits;
     let sizes = block.moves.map(|m| parts(m.unsigned_abs()));
     let length = sizes.iter().map(|s| s * s).sum::<u64>().isqrt();
     let speed = block.feed.min(rate(&limits.speed, &sizes, length));
     let full = rate(&limits.accel, &sizes, length);
-    let accel = (full * torque_percent(torque_step(speed)) / 100).max(1);
+    let percent = machine.torque_percent(torque_step(speed));
+    let accel = (full * percent / 100).max(1);
     Numbers {
         length,
         speed,
@@ -96,10 +98,10 @@ fn half_up(change: u64, accel: u64) -> u64 {
 }
 
 /// Plan of checked blocks from rest to rest, (µm/s)².
-pub fn plan_of(limits: &Limits, blocks: &[Block]) -> Option<Vec<u64>> {
-    let numbers: Vec<Numbers> = blocks.iter().map(|b| numbers_of(limits, b)).collect();
+pub fn plan_of(machine: &Machine, blocks: &[Block]) -> Option<Vec<u64>> {
+    let numbers: Vec<Numbers> = blocks.iter().map(|b| numbers_of(machine, b)).collect();
     let known = |k: usize| (&blocks[k], &numbers[k]);
-    let cap = |k: usize| junction_cap(limits, known(k - 1), known(k));
+    let cap = |k: usize| junction_cap(&machine.limits, known(k - 1), known(k));
     highest(&Course {
         committed: 0,
         caps: (1..blocks.len()).map(cap).collect(),

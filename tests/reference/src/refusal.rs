@@ -14,10 +14,11 @@ pub enum Refusal {
     Ragged = 9,
     Many = 10,
     List = 11,
+    Steps = 14,
 }
 
 impl Refusal {
-    /// Number on the display, 1 to 11.
+    /// Number on the display: 1 to 11, or 14.
     pub fn number(self) -> u64 {
         self as u64
     }
@@ -36,6 +37,7 @@ impl Refusal {
             Refusal::Ragged => "ragged",
             Refusal::Many => "many",
             Refusal::List => "list",
+            Refusal::Steps => "steps",
         }
     }
 

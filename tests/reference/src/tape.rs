@@ -1,8 +1,8 @@
 //! The tape: limits, records, and the check and plan of a whole tape.
 
 use crate::bits::{BitReader, BitWriter};
-use crate::machine::{check_block, check_limits, Block, Limits};
-use crate::plan::{highest, Course};
+use crate::machine::{check_block, check_limits, Block, Limits, Machine};
+use crate::plan::from_rest;
 use crate::refusal::{Fault, Refusal};
 
 /// Bytes of the limits at the tape's begin.
@@ -139,16 +139,35 @@ fn store(bytes: &[u8], part: &mut [u8]) -> Result<(), Refusal> {
 
 /// Reads a whole tape: checks 10, 9, 1, then each record in turn.
 pub fn read_tape(tape: &[u8]) -> Result<Tape, Fault> {
+    let limits = read_head(tape)?;
+    let blocks = read_records(tape)?;
+    Ok(Tape { limits, blocks })
+}
+
+/// Reads a whole tape that is to be planned with loaded torque steps, none if
+/// the list is empty: checks 10, 9, 1, 14, then each record in turn.
+pub fn read_to_plan(tape: &[u8], steps: &[u8]) -> Result<(Machine, Vec<Block>), Fault> {
+    let limits = read_head(tape)?;
+    let machine = Machine::of(&limits, steps).map_err(Refusal::at_no_record)?;
+    let blocks = read_records(tape)?;
+    Ok((machine, blocks))
+}
+
+/// The limits of a whole tape: checks 10, 9, 1.
+fn read_head(tape: &[u8]) -> Result<Limits, Fault> {
     if tape.len() > MOST_BYTES {
         return Err(Refusal::Many.at_no_record());
     }
     if tape.len() < LIMITS_BYTES || !(tape.len() - LIMITS_BYTES).is_multiple_of(RECORD_BYTES) {
         return Err(Refusal::Ragged.at_no_record());
     }
-    let limits = read_limits(tape).map_err(Refusal::at_no_record)?;
+    read_limits(tape).map_err(Refusal::at_no_record)
+}
+
+/// The blocks of a tape of at least 24 bytes: each record in turn.
+fn read_records(tape: &[u8]) -> Result<Vec<Block>, Fault> {
     let records = tape[LIMITS_BYTES..].chunks(RECORD_BYTES);
-    let blocks: Result<Vec<Block>, Fault> = records.zip(1..).map(read_at).collect();
-    blocks.map(|blocks| Tape { limits, blocks })
+    records.zip(1..).map(read_at).collect()
 }
 
 /// Reads the record at a place counted from 1.
@@ -156,24 +175,19 @@ fn read_at((record, place): (&[u8], u64)) -> Result<Block, Fault> {
     read_record(record).map_err(|refusal| Fault { refusal, place })
 }
 
-/// Plans a whole tape from rest to rest into a lent list of exactly one number
-/// more than blocks: the checks of `read_tape`, then 11.
-pub fn plan_tape(tape: &[u8], list: &mut [u64]) -> Result<(), Fault> {
-    let tape = read_tape(tape)?;
-    if list.len() != tape.blocks.len() + 1 {
+/// Plans a whole tape under loaded torque steps, none if the list of them is
+/// empty, from rest to rest into a lent list of exactly one number more than
+/// blocks: the checks of `read_to_plan`, then 11.
+pub fn plan_tape(tape: &[u8], steps: &[u8], list: &mut [u64]) -> Result<(), Fault> {
+    let (machine, blocks) = read_to_plan(tape, steps)?;
+    if list.len() != blocks.len() + 1 {
         return Err(Refusal::List.at_no_record());
     }
-    list.copy_from_slice(&tape.plan());
+    list.copy_from_slice(&from_rest(&machine, &blocks));
     Ok(())
 }
 
 impl Tape {
-    /// Highest lawful profile from rest to rest, (µm/s)².
-    pub fn plan(&self) -> Vec<u64> {
-        let course = Course::of(&self.limits, &self.blocks, 0);
-        highest(&course).expect("all zeros is lawful from rest to rest")
-    }
-
     /// The bytes of the tape, unchecked.
     pub fn pack(&self) -> Vec<u8> {
         let mut bytes = pack_limits(&self.limits, 0);

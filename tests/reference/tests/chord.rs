@@ -14,6 +14,11 @@ use reference::tape::read_tape;
 /// A speed, µm/s, whose square is above every chord cap.
 const ABOVE_EVERY_CAP: u64 = 4_000_000_000;
 
+/// The machine of good limits without loaded torque steps.
+fn unloaded(limits: Limits) -> Machine {
+    Machine::of(&limits, &[]).expect("good limits")
+}
+
 /// Chord cap alone, (µm/s)², of a radius R, µm.
 fn chord_cap(limits: &Limits, radius: u64) -> u64 {
     let curved = Block {
@@ -89,13 +94,13 @@ struct Shown {
 }
 
 impl Shown {
-    /// What the paths with their limits show.
-    fn of(paths: impl Iterator<Item = (Limits, Vec<Block>)>) -> Shown {
+    /// What the paths on their machines show.
+    fn of(paths: impl Iterator<Item = (Machine, Vec<Block>)>) -> Shown {
         let mut shown = Shown::default();
-        for (limits, blocks) in paths {
-            let plan = plan_of(&limits, &blocks).expect("a plan");
+        for (machine, blocks) in paths {
+            let plan = plan_of(&machine, &blocks).expect("a plan");
             for (block, speeds) in blocks.iter().zip(plan.windows(2)) {
-                shown.count(&limits, block, speeds);
+                shown.count(&machine, block, speeds);
             }
         }
         println!("{shown:?}");
@@ -103,12 +108,13 @@ impl Shown {
     }
 
     /// Counts a block with the squared speeds at its begin and end.
-    fn count(&mut self, limits: &Limits, block: &Block, speeds: &[u64]) {
+    fn count(&mut self, machine: &Machine, block: &Block, speeds: &[u64]) {
         self.blocks += 1;
         if block.radius == 0 {
             return;
         }
-        let numbers = Numbers::of(limits, block);
+        let numbers = Numbers::of(machine, block);
+        let limits = &machine.limits;
         let squared = numbers.speed.pow(2);
         let [e, r, t] = [limits.chord, block.radius, limits.tick].map(u128::from);
         if r <= 2 * e {
@@ -144,7 +150,7 @@ fn check(shown: &Shown, percent: u64, peaks: u64, told: u64) {
 /// in 160 or more.
 #[test]
 fn paths_show_the_rule() {
-    let drawn = |mut rng: Rng| (limits(&mut rng), path(&mut rng, 12));
+    let drawn = |mut rng: Rng| (unloaded(limits(&mut rng)), path(&mut rng, 12));
     let shown = Shown::of((0..4_000).map(|seed| drawn(Rng::new(seed))));
     assert_eq!(shown.blocks, 48_000);
     check(&shown, 5, 50, 300);
@@ -154,7 +160,9 @@ fn paths_show_the_rule() {
 /// chord rule, and a wrong side changes one block cap in ten or more.
 #[test]
 fn tight_paths_show_the_rule() {
-    let shown = Shown::of((0..4_000).map(|seed| tight_path(&mut Rng::new(seed), 12)));
+    let drawn = |seed| tight_path(&mut Rng::new(seed), 12);
+    let paths = (0..4_000).map(drawn);
+    let shown = Shown::of(paths.map(|(limits, blocks)| (unloaded(limits), blocks)));
     assert_eq!(shown.blocks, 48_000);
     check(&shown, 40, 1_000, 4_800);
 }
@@ -165,7 +173,7 @@ fn tight_paths_show_the_rule() {
 fn tapes_show_the_rule() {
     let drawn = |seed| read_tape(&tape(&mut Rng::new(seed))).expect("an accepted tape");
     let tapes = (0..1_000).map(drawn);
-    let shown = Shown::of(tapes.map(|tape| (tape.limits, tape.blocks)));
+    let shown = Shown::of(tapes.map(|tape| (unloaded(tape.limits), tape.blocks)));
     check(&shown, 30, 1_000, 4_000);
 }
 
@@ -173,11 +181,12 @@ fn tapes_show_the_rule() {
 /// peaks; those that a check refuses are left out.
 #[test]
 fn machine_cases_show_the_rule() {
-    let accepted = |case: &Case| {
-        let blocks = [case.before, case.after];
-        check_limits(&case.limits).is_ok() && blocks.iter().all(|b| check_block(b).is_ok())
+    let accepted = |case: Case| {
+        let blocks = vec![case.before, case.after];
+        let machine = Machine::of(&case.limits, &case.steps).ok()?;
+        let good = blocks.iter().all(|b| check_block(b).is_ok());
+        good.then_some((machine, blocks))
     };
-    let cases = cases().into_iter().filter(accepted);
-    let shown = Shown::of(cases.map(|case| (case.limits, vec![case.before, case.after])));
+    let shown = Shown::of(cases().into_iter().filter_map(accepted));
     check(&shown, 30, 0, 40);
 }

@@ -8,8 +8,13 @@ use reference::machine_cases::block;
 use reference::plan::{highest, Course};
 use reference::refusal::Refusal;
 
+/// The machine of good limits with the built-in torque steps.
+fn on(limits: Limits) -> Machine {
+    Machine::of(&limits, &[]).unwrap()
+}
+
 fn plan(blocks: &[Block]) -> Option<Vec<u64>> {
-    highest(&Course::of(&machine_m(), blocks, 0))
+    highest(&Course::of(&on(machine_m()), blocks, 0))
 }
 
 #[test]
@@ -23,7 +28,7 @@ fn lengths() {
 
 #[test]
 fn acceleration_and_reach() {
-    let numbers = Numbers::of(&machine_m(), &block(3, 4, 0));
+    let numbers = Numbers::of(&on(machine_m()), &block(3, 4, 0));
     assert_eq!((numbers.accel, numbers.reach), (250_000, 2_500_000));
 }
 
@@ -47,13 +52,13 @@ fn chord() {
     let chord_cap = |radius| block_cap(&limits, &curved(radius), 1_000_000);
     assert_eq!(chord_cap(1_000), 1_999_000_000);
     assert_eq!(chord_cap(1), 1_000_000);
-    assert_eq!(Numbers::of(&limits, &curved(1_000)).cap, 400_000_000);
+    assert_eq!(Numbers::of(&on(limits), &curved(1_000)).cap, 400_000_000);
 }
 
 #[test]
 fn one_block() {
     assert_eq!(plan(&[block(1_000, 0, 0)]), Some(vec![0, 0]));
-    let ramp = given(&machine_m(), &block(1_000, 0, 0), 0, 0).ramp;
+    let ramp = given(&on(machine_m()), &block(1_000, 0, 0), 0, 0).ramp;
     assert_eq!(ramp.peak, 200_000_000);
     assert_eq!((ramp.up, ramp.cruise, ramp.down), (500, 0, 500));
 }
@@ -63,7 +68,7 @@ fn one_block() {
 #[test]
 fn odd_lengths() {
     let ramp = |length| {
-        let ramp = given(&machine_m(), &block(length, 0, 0), 0, 0).ramp;
+        let ramp = given(&on(machine_m()), &block(length, 0, 0), 0, 0).ramp;
         (ramp.up, ramp.cruise, ramp.down)
     };
     assert_eq!(ramp(1), (0, 0, 1));
@@ -79,7 +84,7 @@ fn two_blocks() {
 }
 
 fn sixty_four_places<P: LookAhead>() {
-    let mut planner = P::fresh(&machine_m()).unwrap();
+    let mut planner = P::fresh(&machine_m(), &[]).unwrap();
     for _ in 0..64 {
         assert_eq!(planner.add(&block(1_000, 0, 0)), Ok(()));
     }
@@ -116,7 +121,7 @@ fn torque_steps() {
             feed,
             ..block(1_000, 0, 0)
         };
-        Numbers::of(&machine_m(), &fast).accel
+        Numbers::of(&on(machine_m()), &fast).accel
     };
     let percents = [100, 100, 90, 80, 70, 60, 50, 40];
     for (step, percent) in percents.iter().enumerate() {
@@ -132,7 +137,7 @@ fn torque_steps() {
         feed: 1_000_000,
         ..block(1_000, 0, 0)
     };
-    assert_eq!(Numbers::of(&held_back, &fast).accel, 200_000);
+    assert_eq!(Numbers::of(&on(held_back), &fast).accel, 200_000);
 }
 
 /// An acceleration that the percentage rounds to 0 stays 1.
@@ -146,7 +151,7 @@ fn acceleration_is_at_least_one() {
         feed: 1_000_000,
         ..block(1_000, 0, 0)
     };
-    assert_eq!(Numbers::of(&weak, &fast).accel, 1);
+    assert_eq!(Numbers::of(&on(weak), &fast).accel, 1);
 }
 
 /// Lengths rounded down: some tiny turns have no corner cap, a reversal of

@@ -58,7 +58,7 @@ fn held(line: &Line) -> String {
 /// feed.c's row, block by block, with a block that does not move.
 fn row_text() -> String {
     let mut text = String::new();
-    let mut line = Line::fresh(&machine_m()).unwrap();
+    let mut line = Line::fresh(&machine_m(), &[]).unwrap();
     for (k, [x, y, z, radius]) in ROW.into_iter().enumerate() {
         if line.told() == AHEAD {
             text += &taken(&mut line);
@@ -108,10 +108,10 @@ fn tape_text() -> String {
         text += &format!(" radius {} mark {}\n", block.radius, block.mark);
     }
     let mut plan = [0; 3];
-    plan_tape(&tape, &mut plan).unwrap();
+    plan_tape(&tape, &[], &mut plan).unwrap();
     text += &list("tape of 2 blocks, plan", &plan);
     tape[LIMITS_BYTES + RECORD_BYTES..].fill(0);
-    let fault = plan_tape(&tape, &mut plan).unwrap_err();
+    let fault = plan_tape(&tape, &[], &mut plan).unwrap_err();
     let (number, place) = (fault.refusal.number(), fault.place);
     text + &format!("tape refused by {number} at {place}\n")
 }
@@ -130,7 +130,7 @@ fn given_numbers(given: &Given) -> [u64; 11] {
 /// feed.c's trace: a take too early, the pair's two adds, and a take.
 fn trace_text() -> String {
     let pair = right_angle();
-    let mut line = Line::fresh(&pair.limits).unwrap();
+    let mut line = Line::fresh(&pair.limits, &[]).unwrap();
     let mut rows = [[0; 15]; 4];
     rows[0][0] = line.take().unwrap_err().number();
     pair.blocks.iter().for_each(|b| line.add(b).unwrap());
@@ -144,7 +144,7 @@ fn trace_text() -> String {
 /// What pair.rs prints: the pair's plan, its blocks, and a take too many.
 fn pair_text() -> String {
     let pair = right_angle();
-    let mut line = Line::fresh(&pair.limits).unwrap();
+    let mut line = Line::fresh(&pair.limits, &[]).unwrap();
     pair.blocks.iter().for_each(|b| line.add(b).unwrap());
     let mut text = format!("plan {:?}\n", line.profile());
     for _ in 0..3 {

@@ -34,7 +34,7 @@ fn stored_traces_are_these() {
 /// refused by 8 once and by 2 after each 40 blocks, and never by 7.
 #[test]
 fn shop_traffic_holds_few_blocks() {
-    let text = planreplay(&example_trace("shop-traffic").unwrap());
+    let text = planreplay(&example_trace("shop-traffic").unwrap(), &[]);
     let refused = |number: u64| {
         let line = format!("refused {number}");
         text.lines().filter(|l| *l == line).count()

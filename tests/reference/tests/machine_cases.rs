@@ -1,5 +1,7 @@
 //! The cases of the test program `machine_run` and its stored files.
 
+use std::collections::BTreeSet;
+
 use reference::machine_cases::{cases, Case};
 
 const STORED_CASES: &str = include_str!("../../../crates/machine_run/stdin");
@@ -26,10 +28,41 @@ fn stored_answers_are_these() {
         .eq(answers.iter().map(String::as_str)));
 }
 
+/// Numbers by which the part of the answers at a place, from 0, is refused:
+/// the first block's numbers, the second's, the junction cap.
+fn refusals(place: usize) -> BTreeSet<u64> {
+    let parts = STORED_ANSWERS
+        .lines()
+        .map(|line| line.split(" | ").nth(place).unwrap());
+    let refused = parts.filter_map(|part| part.strip_prefix("refused "));
+    refused.map(|number| number.parse().unwrap()).collect()
+}
+
+/// A junction cap knows no acceleration, so torque steps never refuse it.
 #[test]
-fn every_refusal_of_limits_and_block_occurs() {
-    for number in 1..=6 {
-        let refused = format!("refused {number}");
-        assert!(STORED_ANSWERS.contains(&refused), "{refused}");
+fn every_refusal_of_each_answer_occurs() {
+    let of_numbers = BTreeSet::from([1, 2, 3, 4, 5, 6, 14]);
+    assert_eq!([0, 1].map(refusals), [of_numbers.clone(), of_numbers]);
+    assert_eq!(refusals(2), (1..=6).collect());
+}
+
+/// A line without steps has 21 words; the steps follow one by one.
+#[test]
+fn steps_follow_the_other_words() {
+    let case = cases().pop().unwrap();
+    let unloaded = Case {
+        steps: Vec::new(),
+        ..case.clone()
+    };
+    let line = unloaded.line();
+    assert_eq!(line.split(' ').count(), 21);
+    for steps in [vec![0], vec![255, 1, 100], (1..=9).collect()] {
+        let words: String = steps.iter().map(|step| format!(" {step}")).collect();
+        let loaded = Case {
+            steps,
+            ..case.clone()
+        };
+        assert_eq!(loaded.line(), format!("{line}{words}"));
+        assert_eq!(Case::of_line(&loaded.line()), loaded);
     }
 }

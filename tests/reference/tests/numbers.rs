@@ -2,19 +2,22 @@
 
 use std::collections::BTreeMap;
 
-use reference::generate::{block_of_speed, edge_speeds, limits, path, Cause, Way, CAUSES, WAYS};
+use reference::generate::{block_of_speed, edge_speeds, limits, path, steps};
+use reference::generate::{Cause, Way, CAUSES, WAYS};
 use reference::machine::*;
 use reference::quick;
 use reference::rng::Rng;
 use reference::search::largest;
 
-/// Limits and a pair of blocks for each of many seeds.
-fn pairs(count: u64) -> impl Iterator<Item = (Limits, [Block; 2])> {
+/// A machine, one in three with loaded torque steps, and a pair of blocks for
+/// each of many seeds.
+fn pairs(count: u64) -> impl Iterator<Item = (Machine, [Block; 2])> {
     (0..count).flat_map(|seed| {
         let mut rng = Rng::new(seed);
         let limits = limits(&mut rng);
         let blocks = path(&mut rng, 12);
-        let pairs: Vec<_> = blocks.windows(2).map(|w| (limits, [w[0], w[1]])).collect();
+        let machine = Machine::of(&limits, &steps(&mut rng)).expect("good limits and steps");
+        let pairs: Vec<_> = blocks.windows(2).map(|w| (machine, [w[0], w[1]])).collect();
         pairs
     })
 }
@@ -29,11 +32,13 @@ fn search_finds_the_largest() {
 }
 
 /// v × |move| ≤ limit × L holds at v and on some axis, or by the feed, no
-/// longer at v + 1; the same for a before its percentage.
+/// longer at v + 1; the same for a at 100 percent, of which a is the torque
+/// step's percentage rounded down, or 1.
 #[test]
 fn speed_and_acceleration_are_the_largest() {
-    for (limits, [block, _]) in pairs(2_000) {
-        let numbers = Numbers::of(&limits, &block);
+    for (machine, [block, _]) in pairs(2_000) {
+        let limits = machine.limits;
+        let numbers = Numbers::of(&machine, &block);
         let length = numbers.length as u128;
         let over = |rate: u64, axis_limits: &[u64; 3]| {
             let axes = block.moves.iter().zip(axis_limits);
@@ -44,10 +49,12 @@ fn speed_and_acceleration_are_the_largest() {
         assert!(numbers.speed >= 1 && numbers.speed <= block.feed);
         assert!(!over(numbers.speed, &limits.speed));
         assert!(numbers.speed == block.feed || over(numbers.speed + 1, &limits.speed));
-        assert!(!over(numbers.accel, &limits.accel));
-        if torque_percent(torque_step(numbers.speed)) == 100 {
-            assert!(over(numbers.accel + 1, &limits.accel));
-        }
+        let unreduced = Machine::of(&limits, &[100; 8]).unwrap();
+        let full = Numbers::of(&unreduced, &block).accel;
+        assert!(!over(full, &limits.accel) && over(full + 1, &limits.accel));
+        let kept = full * u64::from(machine.percents[(numbers.speed as usize - 1) / 125_000]);
+        assert!(100 * numbers.accel <= kept || numbers.accel == 1);
+        assert!(100 * (numbers.accel + 1) > kept);
     }
 }
 
@@ -62,7 +69,7 @@ fn edge_speeds_are_met() {
         {
             let (limits, block) = block_of_speed(&mut rng, speed, way, cause);
             let moving = block.moves.iter().filter(|m| **m != 0).count();
-            assert_eq!(Numbers::of(&limits, &block).speed, speed);
+            assert_eq!(speed_of(&limits, &block, length_of(&block)), speed);
             assert_eq!(moving == 1, way == Way::Straight);
             assert!(cause == Cause::Feed || block.feed > speed || speed == 1_000_000);
             assert_eq!(check_limits(&limits), Ok(()));
@@ -72,7 +79,8 @@ fn edge_speeds_are_met() {
 
 #[test]
 fn corner_cap_is_the_largest() {
-    for (limits, [before, after]) in pairs(2_000) {
+    for (machine, [before, after]) in pairs(2_000) {
+        let limits = machine.limits;
         let p = length_of(&before) as i128 * length_of(&after) as i128;
         let products = before.moves.iter().zip(after.moves);
         let s: i128 = products.map(|(a, b)| *a as i128 * b as i128).sum();
@@ -90,10 +98,11 @@ fn corner_cap_is_the_largest() {
 
 #[test]
 fn division_agrees_with_search() {
-    for (limits, [before, after]) in pairs(4_000) {
-        let [a, b] = [before, after].map(|block| Numbers::of(&limits, &block));
-        assert_eq!(quick::numbers_of(&limits, &before), a);
-        assert_eq!(quick::numbers_of(&limits, &after), b);
+    for (machine, [before, after]) in pairs(4_000) {
+        let limits = machine.limits;
+        let [a, b] = [before, after].map(|block| Numbers::of(&machine, &block));
+        assert_eq!(quick::numbers_of(&machine, &before), a);
+        assert_eq!(quick::numbers_of(&machine, &after), b);
         assert_eq!(
             quick::junction_cap(&limits, (&before, &a), (&after, &b)),
             junction_cap(&limits, &before, &after)
@@ -117,7 +126,7 @@ fn greatest_numbers() {
         radius: 10_000_000,
         mark: 0,
     };
-    let numbers = Numbers::of(&most, &long);
+    let numbers = Numbers::of(&Machine::of(&most, &[]).unwrap(), &long);
     assert_eq!((numbers.length, numbers.accel), (1_732_050, 34_641_000));
     assert_eq!(numbers.reach, 2 * 34_641_000 * 1_732_050);
     let chord_only = block_cap(&most, &long, 4_000_000_000);
@@ -173,8 +182,8 @@ fn check_lengths(numbers: &Numbers, rise: u64, fall: u64, ramp: &Ramp) -> [bool;
 #[test]
 fn ramps() {
     let mut met = BTreeMap::new();
-    for (limits, [block, _]) in pairs(2_000) {
-        let numbers = Numbers::of(&limits, &block);
+    for (machine, [block, _]) in pairs(2_000) {
+        let numbers = Numbers::of(&machine, &block);
         for (entry, exit) in plan_speeds(&numbers) {
             let ramp = ramp_of(&numbers, entry, exit);
             assert_eq!(quick::ramp_of(&numbers, entry, exit), ramp);

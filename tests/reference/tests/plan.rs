@@ -1,7 +1,8 @@
 //! The plan is the highest lawful profile.
 
-use reference::generate::{calls, limits, path, tiny_block, tiny_limits};
+use reference::generate::{calls, limits, path, steps, tiny_block, tiny_limits};
 use reference::line::{Line, LookAhead};
+use reference::machine::Machine;
 use reference::plan::*;
 use reference::quick::plan_of;
 use reference::rng::Rng;
@@ -75,7 +76,7 @@ fn brute_force_on_tiny_lines() {
     let mut held = Held::default();
     for seed in 0..400 {
         let mut rng = Rng::new(seed);
-        let mut line = Line::fresh(&tiny_limits(&mut rng)).unwrap();
+        let mut line = Line::fresh(&tiny_limits(&mut rng), &steps(&mut rng)).unwrap();
         for _ in 0..25 {
             if line.told() == 6 || rng.once_in(3) {
                 let _ = line.take();
@@ -96,7 +97,7 @@ fn brute_force_on_tiny_lines() {
 fn passes_agree_with_sums() {
     for seed in 0..60 {
         let mut rng = Rng::new(seed);
-        let mut line = Line::fresh(&limits(&mut rng)).unwrap();
+        let mut line = Line::fresh(&limits(&mut rng), &steps(&mut rng)).unwrap();
         for call in calls(&mut rng, 150) {
             match call {
                 Call::Take => drop(line.take()),
@@ -115,11 +116,12 @@ fn passes_agree_with_sums() {
 fn whole_paths_agree_with_sums() {
     for seed in 0..100 {
         let mut rng = Rng::new(seed);
-        let limits = limits(&mut rng);
+        let machine = Machine::of(&limits(&mut rng), &steps(&mut rng)).unwrap();
         let count = rng.within(0, 150) as usize;
         let blocks = path(&mut rng, count);
-        let course = Course::of(&limits, &blocks, 0);
+        let course = Course::of(&machine, &blocks, 0);
         assert_eq!(highest(&course), Some(highest_by_sums(&course)));
-        assert_eq!(plan_of(&limits, &blocks), highest(&course));
+        assert_eq!(plan_of(&machine, &blocks), highest(&course));
+        assert_eq!(highest(&course), Some(from_rest(&machine, &blocks)));
     }
 }

@@ -11,11 +11,11 @@ use reference::refusal::Refusal;
 use reference::rng::Rng;
 use reference::trace::Call;
 
-/// Runs the calls through both and compares every answer, number told and
-/// plan shown; gives the refusals met.
-fn compare(limits: &Limits, calls: &[Call]) -> BTreeSet<String> {
-    let mut line = Line::fresh(limits).unwrap();
-    let mut planner = Planner::fresh(limits).unwrap();
+/// Runs the calls through both, made fresh with the same torque steps, and
+/// compares every answer, number told and plan shown; gives the refusals met.
+fn compare(limits: &Limits, steps: &[u8], calls: &[Call]) -> BTreeSet<String> {
+    let mut line = Line::fresh(limits, steps).unwrap();
+    let mut planner = Planner::fresh(limits, steps).unwrap();
     let mut refusals = BTreeSet::new();
     for (place, call) in calls.iter().enumerate() {
         let answer = answer_line(&mut line, call);
@@ -38,7 +38,8 @@ fn random_call_lists() {
         let mut rng = Rng::new(seed);
         let limits = limits(&mut rng);
         let count = rng.within(1, 300) as usize;
-        refusals.extend(compare(&limits, &calls(&mut rng, count)));
+        let steps = steps(&mut rng);
+        refusals.extend(compare(&limits, &steps, &calls(&mut rng, count)));
     }
     let expected = (2..=8).map(|number| format!("refused {number}\n"));
     assert_eq!(refusals, expected.collect());
@@ -52,12 +53,13 @@ fn bench_paths() {
         for block in &blocks[64..] {
             list.extend([Call::Take, Call::Add(*block)]);
         }
-        assert!(compare(&machine_m(), &list).is_empty());
+        assert!(compare(&machine_m(), &[], &list).is_empty());
+        assert!(compare(&machine_m(), &[9; 8], &list).is_empty());
     }
 }
 
 fn lists_of_other_lengths<P: LookAhead>() {
-    let mut planner = P::fresh(&machine_m()).unwrap();
+    let mut planner = P::fresh(&machine_m(), &[]).unwrap();
     for block in straight_steps(3, 5) {
         planner.add(&block).unwrap();
     }
@@ -79,14 +81,14 @@ fn shown_needs_exactly_one_more() {
 /// pass check 1.
 #[test]
 fn fresh() {
-    let line = Line::fresh(&machine_m()).unwrap();
+    let line = Line::fresh(&machine_m(), &[]).unwrap();
     assert_eq!(line.profile(), [0]);
     let faulty = Limits {
         tick: 99,
         ..machine_m()
     };
-    assert_eq!(Line::fresh(&faulty), Err(Refusal::Limits));
-    assert_eq!(Planner::fresh(&faulty).err(), Some(Refusal::Limits));
+    assert_eq!(Line::fresh(&faulty, &[]), Err(Refusal::Limits));
+    assert_eq!(Planner::fresh(&faulty, &[]).err(), Some(Refusal::Limits));
 }
 
 /// Refused calls leave the line as it is, also a faulty block at a full line,
@@ -94,7 +96,7 @@ fn fresh() {
 #[test]
 fn refused_calls_change_nothing() {
     let mut rng = Rng::new(5);
-    let mut line = Line::fresh(&machine_m()).unwrap();
+    let mut line = Line::fresh(&machine_m(), &[]).unwrap();
     assert_eq!(line.take(), Err(Refusal::Empty));
     for block in short_steps(4, 64) {
         line.add(&block).unwrap();

@@ -19,12 +19,12 @@ const CHUNK_CALLS: usize = 300;
 #[test]
 fn stored_listing_is_that_of_the_tape() {
     assert!(TAPE == right_angle().pack());
-    assert_eq!(LISTING, planlist(TAPE));
+    assert_eq!(LISTING, planlist(TAPE, &[]));
 }
 
 #[test]
 fn stored_answers_are_those_of_the_trace() {
-    assert!(ANSWERS == planreplay(TRACE));
+    assert!(ANSWERS == planreplay(TRACE, &[]));
 }
 
 /// Every number by which a call can be refused occurs, and the trace ends

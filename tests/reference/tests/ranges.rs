@@ -1,7 +1,10 @@
 //! Both ends of each range and one beyond, and the order of the checks.
 
+use std::collections::BTreeSet;
+
 use reference::generate::{
-    faulty_block, faulty_limits, limits, limits_and_path, machine_m, path, BLOCK_FAULTS,
+    faulty_block, faulty_limits, faulty_steps, limits, limits_and_path, loaded_steps, machine_m,
+    path, steps, BLOCK_FAULTS,
 };
 use reference::machine::*;
 use reference::refusal::Refusal;
@@ -107,4 +110,63 @@ fn generated_limits_and_paths_are_what_they_say() {
             assert_eq!(check_block(&block), Ok(()));
         }
     }
+}
+
+/// Loaded steps are accepted and have every shape; steps at large are loaded
+/// one time of three.
+#[test]
+fn generated_steps_are_what_they_say() {
+    let mut rng = Rng::new(3);
+    let met: BTreeSet<Vec<u8>> = (0..4_000).map(|_| loaded_steps(&mut rng)).collect();
+    for list in &met {
+        assert_eq!(read_steps(list).unwrap()[..], *list);
+    }
+    let shape = |like: fn(u8, u8) -> bool| {
+        let pairs = |list: &&Vec<u8>| list.windows(2).all(|pair| like(pair[0], pair[1]));
+        met.iter().filter(pairs).count()
+    };
+    assert!(shape(|a, b| a == b) > 90 && shape(|a, b| a > b) > 500);
+    for list in [[1; 8], [100; 8], BUILT_IN] {
+        assert!(met.contains(&list[..]), "{list:?}");
+    }
+    for place in 1..8 {
+        let mut drop = [100; 8];
+        drop[place..].fill(1);
+        assert!(met.contains(&drop[..]), "{place}");
+    }
+    let loaded = (0..3_000).filter(|_| !steps(&mut rng).is_empty()).count();
+    assert!((900..1_100).contains(&loaded), "{loaded}");
+}
+
+/// The one fault of a list: its length, a first byte above 100, a last byte of
+/// 0, or the place of a rise by 1; None if there are several.
+fn single_fault(list: &[u8]) -> Option<(&'static str, usize)> {
+    let rises: Vec<usize> = (1..list.len()).filter(|k| list[*k] > list[k - 1]).collect();
+    let outside = list.iter().filter(|p| !(1..=100).contains(*p)).count();
+    match (list.len(), outside, &rises[..]) {
+        (8, 1, []) if list[0] > 100 => Some(("above", usize::from(list[0]))),
+        (8, 1, []) => Some(("zero", 7)),
+        (8, 0, [k]) => (list[*k] == list[k - 1] + 1).then_some(("rise", *k)),
+        (8, _, _) => None,
+        (length, 0, []) => Some(("length", length)),
+        _ => None,
+    }
+}
+
+/// Faulty steps are refused, and each fault occurs alone.
+#[test]
+fn generated_faulty_steps_are_what_they_say() {
+    let mut rng = Rng::new(4);
+    let mut met = BTreeSet::new();
+    for _ in 0..8_000 {
+        let list = faulty_steps(&mut rng);
+        assert_eq!(read_steps(&list), Err(Refusal::Steps), "{list:?}");
+        met.extend(single_fault(&list));
+    }
+    for length in [1, 2, 3, 4, 5, 6, 7, 9, 10, 16, 256, 264] {
+        assert!(met.contains(&("length", length)), "{length}");
+    }
+    assert!((1..8).all(|place| met.contains(&("rise", place))));
+    assert!(met.contains(&("zero", 7)) && met.contains(&("above", 101)));
+    assert!(met.contains(&("above", 255)));
 }

@@ -163,7 +163,7 @@ fn order_of_a_whole_tape() {
     };
     assert_eq!(refused(&tape), third);
     let mut list = [5; 4];
-    assert_eq!(plan_tape(&tape, &mut list), Err(third));
+    assert_eq!(plan_tape(&tape, &[], &mut list), Err(third));
     assert_eq!(list, [5; 4]);
 }
 
@@ -173,15 +173,15 @@ fn list_of_a_whole_tape() {
     let tape = right_angle().pack();
     for length in [0, 1, 2, 4] {
         let mut list = vec![5; length];
-        let fault = plan_tape(&tape, &mut list).unwrap_err();
+        let fault = plan_tape(&tape, &[], &mut list).unwrap_err();
         assert_eq!(fault, Refusal::List.at_no_record());
         assert_eq!(list, vec![5; length]);
     }
     let mut list = [5; 3];
-    assert_eq!(plan_tape(&tape, &mut list), Ok(()));
+    assert_eq!(plan_tape(&tape, &[], &mut list), Ok(()));
     assert_eq!(list, [0, 2_000_000, 0]);
     let mut list = [5];
-    assert_eq!(plan_tape(&tape[..24], &mut list), Ok(()));
+    assert_eq!(plan_tape(&tape[..24], &[], &mut list), Ok(()));
     assert_eq!(list, [0]);
 }
 
@@ -193,7 +193,7 @@ fn longest_tape_is_planned() {
     };
     let bytes = tape.pack();
     assert_eq!(bytes.len(), 32_792);
-    assert_eq!(plan_tape(&bytes, &mut [0; 2_049]), Ok(()));
+    assert_eq!(plan_tape(&bytes, &[], &mut [0; 2_049]), Ok(()));
     assert_eq!(read_tape(&bytes), Ok(tape));
 }
 

@@ -1,10 +1,12 @@
-//! Seeded limits, blocks, tapes and call lists for the comparisons.
+//! Seeded limits, torque steps, blocks, tapes and call lists for the
+//! comparisons.
 
 mod blocks;
 mod calls;
 mod curves;
 mod limits;
 mod speeds;
+mod steps;
 mod tapes;
 
 pub use blocks::{
@@ -14,4 +16,5 @@ pub use calls::{calls, trace};
 pub use curves::{limits_and_path, tight_path, tight_radius};
 pub use limits::{faulty_limits, limits, machine_m, tiny_limits, with_chord};
 pub use speeds::{block_of_speed, edge_speeds, path_at_edges, Cause, Way, CAUSES, WAYS};
+pub use steps::{faulty_steps, loaded_steps, steps};
 pub use tapes::{faulty_tape, set_last_bit, spoil_record, tape, TAPE_FAULTS};

@@ -2,7 +2,7 @@
 //! and at the ends of the range, where a step too early or too late is seen.
 
 use super::limits::limits;
-use crate::machine::{length_of, range, Block, Limits, Numbers};
+use crate::machine::{length_of, range, speed_of, Block, Limits};
 use crate::rng::Rng;
 
 /// Speeds of one torque step, µm/s.
@@ -59,7 +59,7 @@ pub fn block_of_speed(rng: &mut Rng, speed: u64, way: Way, cause: Cause) -> (Lim
             let axis = (0..3).max_by_key(|axis| moves[*axis].abs()).unwrap_or(0);
             limits.speed[axis] = least_limit(speed, moves[axis], length_of(&block));
         }
-        if Numbers::of(&limits, &block).speed == speed {
+        if speed_of(&limits, &block, length_of(&block)) == speed {
             return (limits, block);
         }
     }

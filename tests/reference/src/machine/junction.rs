@@ -1,7 +1,7 @@
 //! Caps at the junction between two blocks.
 
 use super::kinds::{Block, Limits};
-use super::numbers::{length_of, parts, Numbers};
+use super::numbers::{block_cap, length_of, parts, speed_of};
 use crate::search::largest;
 
 /// Corner cap between two checked blocks, (µm/s)², or None.
@@ -22,12 +22,17 @@ pub fn corner_cap(limits: &Limits, before: &Block, after: &Block) -> Option<u128
 
 /// Junction cap, (µm/s)²: smallest of the two block caps and the corner cap.
 pub fn junction_cap(limits: &Limits, before: &Block, after: &Block) -> u64 {
-    let caps = [before, after].map(|block| Numbers::of(limits, block).cap);
-    let smaller = caps[0].min(caps[1]);
+    let smaller = own_cap(limits, before).min(own_cap(limits, after));
     match corner_cap(limits, before, after) {
         Some(corner) => corner.min(smaller as u128) as u64,
         None => smaller,
     }
+}
+
+/// Block cap of a checked block, (µm/s)².
+fn own_cap(limits: &Limits, block: &Block) -> u64 {
+    let speed = speed_of(limits, block, length_of(block));
+    block_cap(limits, block, speed)
 }
 
 /// Sum over the axes of the products of the moves, µm².

@@ -1,6 +1,7 @@
 //! From a checked block to its length, speed, acceleration, reach and cap.
 
 use super::kinds::{Block, Limits};
+use super::torque::{torque_step, Machine};
 use crate::search::largest;
 
 /// Numbers of one block on one machine.
@@ -20,16 +21,16 @@ pub struct Numbers {
 
 impl Numbers {
     /// All numbers of a block that passes checks 2 to 6.
-    pub fn of(limits: &Limits, block: &Block) -> Numbers {
+    pub fn of(machine: &Machine, block: &Block) -> Numbers {
         let length = length_of(block);
-        let speed = speed_of(limits, block, length);
-        let accel = acceleration_of(limits, block, length, speed);
+        let speed = speed_of(&machine.limits, block, length);
+        let accel = acceleration_of(machine, block, length, speed);
         Numbers {
             length,
             speed,
             accel,
             reach: reach_of(accel, length),
-            cap: block_cap(limits, block, speed),
+            cap: block_cap(&machine.limits, block, speed),
         }
     }
 }
@@ -60,9 +61,9 @@ pub fn speed_of(limits: &Limits, block: &Block, length: u64) -> u64 {
 /// Acceleration a, µm/s²: largest whole number with
 /// a × |move| ≤ acceleration limit × L on each moving axis, then the torque
 /// step's percentage of it rounded down, but not below 1.
-pub fn acceleration_of(limits: &Limits, block: &Block, length: u64, speed: u64) -> u64 {
-    let full = largest(|a| axes_allow(a, &limits.accel, block, length));
-    let percent = torque_percent(torque_step(speed)) as u128;
+pub fn acceleration_of(machine: &Machine, block: &Block, length: u64, speed: u64) -> u64 {
+    let full = largest(|a| axes_allow(a, &machine.limits.accel, block, length));
+    let percent = machine.torque_percent(torque_step(speed)) as u128;
     let reduced = largest(|a| a * 100 <= full * percent);
     reduced.max(1) as u64
 }
@@ -73,16 +74,6 @@ fn axes_allow(rate: u128, axis_limits: &[u64; 3], block: &Block, length: u64) ->
     let moving = |axis: &usize| block.moves[*axis] != 0;
     let allows = |k| rate * size(block.moves[k]) <= axis_limits[k] as u128 * length as u128;
     (0..3).filter(moving).all(allows)
-}
-
-/// Torque step number of a block speed of at least 1 µm/s.
-pub fn torque_step(speed: u64) -> u64 {
-    (speed - 1) / 125_000
-}
-
-/// Percentage of the acceleration that is left at a torque step, 0 to 7.
-pub fn torque_percent(step: u64) -> u64 {
-    [100, 100, 90, 80, 70, 60, 50, 40][step as usize]
 }
 
 /// Reach b = 2 × a × L, (µm/s)².

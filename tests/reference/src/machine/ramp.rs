@@ -1,7 +1,8 @@
 //! Ramp of a block between the speeds that a plan gives it.
 
-use super::kinds::{Block, Limits};
+use super::kinds::Block;
 use super::numbers::{parts, Numbers};
+use super::torque::Machine;
 use crate::search::largest;
 
 /// How a block is run: squared peak speed and the lengths of its three parts.
@@ -34,8 +35,8 @@ pub struct Given {
 
 /// The block with its numbers and ramp, for a plan's entry and exit squared
 /// speeds.
-pub fn given(limits: &Limits, block: &Block, entry: u64, exit: u64) -> Given {
-    let numbers = Numbers::of(limits, block);
+pub fn given(machine: &Machine, block: &Block, entry: u64, exit: u64) -> Given {
+    let numbers = Numbers::of(machine, block);
     Given {
         block: *block,
         length: numbers.length,

@@ -16,13 +16,15 @@ count c = omega (arith, c .fewer .ensures, c .before .records-in .ensures)
 slice-aggregate-plan-measured : tie.Need-slice-aggregate-plan-measured
 slice-aggregate-plan-measured c =
     let fewer = c .before .before in
-    sym (lent-length (fewer .before .before .before .args .s .now) (count fewer))
+    let a = fewer .before .before .before .args in
+    sym (lent-length (a .s .now) (a .steps .now) (count fewer))
 
 returns : tie.Need-returns
 returns c =
     let planned = c .before in
     let fewer = planned .before .before .before in
-    listing-from (fewer .before .before .before .args .s .now) (count fewer) (planned .plan-measured .ensures)
+    let a = fewer .before .before .before .args in
+    listing-from (a .s .now) (a .steps .now) (count fewer) (planned .plan-measured .ensures)
 
 pub of-spec : {M : Type 1} → statement M
 of-spec =

@@ -6,7 +6,8 @@ use native.Mathlib.Omega.{arith}
 use lib.Dec.{lit<}
 use Rattle.arith.proofs.Division.{half-product}
 use Rattle.machine.specs.Ranges.{mostAccel, mostFeed}
-use Rattle.machine.specs.Numbers.{AxesBelow, unit, lengthFrom, lengthOf, eachAxis, torquePercent, axisAccel, accelOf, reachFrom, blockCapFrom, numbersOf}
+use Rattle.machine.specs.Numbers.{AxesBelow, unit, lengthFrom, lengthOf, eachAxis, axisAccel, accelOf, reachFrom, blockCapFrom, numbersOf}
+use Rattle.machine.specs.Torque.{torquePercent}
 use Rattle.machine.proofs.AxisLaws.{speed-largest}
 use Rattle.machine.proofs.Bounds.{in-range, moves-below, length-below}
 use Rattle.machine.proofs.Limited.{each-below}

@@ -3,7 +3,7 @@ use mathlib.Core.Path.{ap}
 use Prim.Native.Nat.{ℕ, _-_, _*_, _/_, _%_, _^_}
 use borrow.Author.Needs.{needs}
 use native.Mathlib.Omega.{arith}
-use Rattle.machine.specs.Numbers.{torquePercent}
+use Rattle.machine.specs.Torque.{torquePercent}
 use Rattle.machine.proofs.torque.torque_percent.Statement.{statement}
 use Rattle.machine.proofs.torque.torque_percent.Tie as tie
 

@@ -27,7 +27,7 @@ module _ (c : tie.After-records-in) where
   rows = planned .plan-surveyed .last .1 .0
 
   few : c .records-in .result ≤ mostBlocks
-  few = omega (arith, c .records-in .ensures, planned-few (start .args .s .now) (start .args .sheet .now) (planned .plan-surveyed .ensures) (told .enum-told .given .1))
+  few = omega (arith, c .records-in .ensures, planned-few (start .args .s .now) (start .args .steps .now) (start .args .sheet .now) (planned .plan-surveyed .ensures) (told .enum-told .given .1))
 
   long : length rows ≡ sheetSize
   long = omega (arith, planned .plan-surveyed .kept .1 .0)
@@ -52,14 +52,14 @@ returns c =
     let why = c .before .why .given in
     let p = c .before .before .before .before .before .before in
     let a = p .before .before .before .before .before .before .args in
-    measured-refused (a .s .now) (a .sheet .now) (p .plan-surveyed .ensures) (why .0 .0) (why .0 .1 .0) (why .1)
+    measured-refused (a .s .now) (a .steps .now) (a .sheet .now) (p .plan-surveyed .ensures) (why .0 .0) (why .0 .1 .0) (why .1)
 
 returns-2 : tie.Need-returns-2
 returns-2 c =
     let copied = c .before .before in
     let r = copied .before .before .before in
     let a = start r .args in
-    measured-planned (a .s .now) (a .sheet .now) (planned r .plan-surveyed .ensures) (told r .enum-told .given .1) (r .records-in .ensures) (long r) (start r .pre) (copied .copy .ensures)
+    measured-planned (a .s .now) (a .steps .now) (a .sheet .now) (planned r .plan-surveyed .ensures) (told r .enum-told .given .1) (r .records-in .ensures) (long r) (start r .pre) (copied .copy .ensures)
 
 pub plan-copied-spec : {M : Type 1} → statement M
 plan-copied-spec =
