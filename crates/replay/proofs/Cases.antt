@@ -38,23 +38,23 @@ accepted : replayRefusal (machine ++ added ++ taken) 30 65 ≡ 0
 unfolding machine added taken replayRefusal traceRefusal limitsFault zeroBits limitsAt limitsFrom limitsRefusal limitsWithin split numberOf joined
 accepted = refl
 
-short-answers : replayRefusal (machine ++ added ++ taken) 29 65 ≡ 11
+short-answers : replayRefusal (machine ++ added ++ taken) [] 29 65 ≡ 11
 unfolding machine added taken replayRefusal traceRefusal limitsFault zeroBits limitsAt limitsFrom limitsRefusal limitsWithin split numberOf joined
 short-answers = refl
 
-long-plan : replayRefusal (machine ++ added ++ taken) 30 66 ≡ 11
+long-plan : replayRefusal (machine ++ added ++ taken) [] 30 66 ≡ 11
 unfolding machine added taken replayRefusal traceRefusal limitsFault zeroBits limitsAt limitsFrom limitsRefusal limitsWithin split numberOf joined
 long-plan = refl
 
-ragged : replayRefusal (machine ++ added ++ 0 ∷ []) 30 66 ≡ 9
+ragged : replayRefusal (machine ++ added ++ 0 ∷ []) [] 30 66 ≡ 9
 unfolding machine added replayRefusal traceRefusal
 ragged = refl
 
-no-limits : replayRefusal [] 0 65 ≡ 9
+no-limits : replayRefusal [] [] 0 65 ≡ 9
 unfolding replayRefusal traceRefusal
 no-limits = refl
 
-zero-limits : replayRefusal (replicate 24 0) 1 1 ≡ 1
+zero-limits : replayRefusal (replicate 24 0) (101 ∷ []) 1 1 ≡ 1
 unfolding replayRefusal traceRefusal limitsFault zeroBits limitsAt limitsFrom limitsRefusal limitsWithin split numberOf joined
 zero-limits = refl
 

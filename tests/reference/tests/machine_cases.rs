@@ -2,7 +2,9 @@
 
 use std::collections::BTreeSet;
 
-use reference::machine_cases::{cases, Case};
+use reference::generate::machine_m;
+use reference::machine::Limits;
+use reference::machine_cases::{block, cases, Case};
 
 const STORED_CASES: &str = include_str!("../../../crates/machine_run/stdin");
 const STORED_ANSWERS: &str = include_str!("../../../crates/machine_run/stdout");
@@ -44,6 +46,40 @@ fn every_refusal_of_each_answer_occurs() {
     let of_numbers = BTreeSet::from([1, 2, 3, 4, 5, 6, 14]);
     assert_eq!([0, 1].map(refusals), [of_numbers.clone(), of_numbers]);
     assert_eq!(refusals(2), (1..=6).collect());
+}
+
+/// The answer to a block of a move along X and one of 1,000 µm on machine M with
+/// another tick, microseconds, and loaded steps.
+fn answer(tick: u64, x: i64, steps: &[u8]) -> String {
+    let limits = Limits {
+        tick,
+        ..machine_m()
+    };
+    let case = Case {
+        limits,
+        before: block(x, 0, 0),
+        after: block(1_000, 0, 0),
+        steps: steps.to_vec(),
+    };
+    case.answer()
+}
+
+/// Numbers of a block are refused by 1, then 14, then 2 to 6; a junction cap by
+/// 1, then 2 to 6, and steps play no part in it.
+#[test]
+fn order_of_refusals() {
+    let known = "1000 100000 200000000 400000000";
+    let rows: [(u64, i64, &[u8], [&str; 3]); 6] = [
+        (99, 0, &[0], ["refused 1"; 3]),
+        (99, 0, &[50; 8], ["refused 1"; 3]),
+        (100, 0, &[0], ["refused 14", "refused 14", "refused 2"]),
+        (100, 1_000, &[0], ["refused 14", "refused 14", "400000000"]),
+        (100, 0, &[50; 8], ["refused 2", known, "refused 2"]),
+        (100, 1_000, &[50; 8], [known, known, "400000000"]),
+    ];
+    for (tick, x, steps, parts) in rows {
+        assert_eq!(answer(tick, x, steps), parts.join(" | "));
+    }
 }
 
 /// A line without steps has 21 words; the steps follow one by one.

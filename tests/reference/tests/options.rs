@@ -8,7 +8,7 @@ use std::process::{Command, Output, Stdio};
 
 use reference::examples::{example_trace, mould_row};
 use reference::listing::{planlist, planreplay};
-use reference::options::{asked, Asked, MOST_STEP_BYTES};
+use reference::options::{asked, steps_of, Asked};
 
 const PLANLIST: &str = env!("CARGO_BIN_EXE_planlist_ref");
 const PLANREPLAY: &str = env!("CARGO_BIN_EXE_planreplay_ref");
@@ -57,14 +57,8 @@ fn with_file(name: &str, steps: &[u8]) {
     let path = file(name, steps);
     let arguments = ["--steps", path.to_str().unwrap()];
     let (tape, trace) = (mould_row().pack(), example_trace("shop-traffic").unwrap());
-    let looked_at = &steps[..steps.len().min(MOST_STEP_BYTES as usize)];
-    writes(PLANLIST, &arguments, &tape, &planlist(&tape, looked_at));
-    writes(
-        PLANREPLAY,
-        &arguments,
-        &trace,
-        &planreplay(&trace, looked_at),
-    );
+    writes(PLANLIST, &arguments, &tape, &planlist(&tape, steps));
+    writes(PLANREPLAY, &arguments, &trace, &planreplay(&trace, steps));
 }
 
 #[test]
@@ -75,6 +69,17 @@ fn the_file_is_the_list() {
     with_file("nine", &[9; 9]);
     with_file("line-feed", &[&TENS[..], b"\n"].concat());
     with_file("long", &[1; 70_000]);
+}
+
+#[test]
+fn a_part_of_a_long_file_is_looked_at() {
+    let looked_at = |length: usize| {
+        let path = file(&format!("of-{length}"), &vec![1; length]);
+        steps_of(path.as_os_str()).unwrap()
+    };
+    assert!(looked_at(65_535) == [1; 65_535]);
+    assert!(looked_at(65_536) == [1; 65_536]);
+    assert!(looked_at(70_000) == [1; 65_536]);
 }
 
 /// Without options the built-in steps serve; loaded ones give another listing.

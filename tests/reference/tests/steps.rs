@@ -217,8 +217,7 @@ fn order_by_hand() {
 /// What planning a tape into a list of some length answers: 10, 9, 1, 14, the
 /// records, 11. Only a record has a place of its own.
 fn planned_in_words(tape: &[u8], steps: &[u8], length: usize) -> Result<(), Fault> {
-    let read = read_tape(tape);
-    match read {
+    match read_tape(tape) {
         Err(fault) if fault.place == 0 => Err(fault),
         _ if !in_words(steps) => Err(Refusal::Steps.at_no_record()),
         Err(fault) => Err(fault),
@@ -234,9 +233,9 @@ fn order_at_random() {
     let mut met = BTreeSet::new();
     for seed in 0..3_000 {
         let mut rng = Rng::new(seed);
-        let (blocks, fault) = (rng.below(4) as usize, rng.below(3));
-        let (limits, blocks) = limits_and_path(&mut rng, blocks);
-        let tape = match fault {
+        let count = rng.below(4) as usize;
+        let (limits, blocks) = limits_and_path(&mut rng, count);
+        let tape = match rng.below(3) {
             0 => faulty_tape(&mut rng),
             _ => Tape { limits, blocks }.pack(),
         };

@@ -21,16 +21,16 @@ module _ (c : tie.After-records-in) where
   planned = told .before .before .before .before .before
 
   abbrev start : tie.Start
-  start = planned .before .before .before .before .before .before
+  start = planned .before .before .before .before .before .before .before
 
   abbrev rows : List ℕ
-  rows = planned .plan-surveyed .last .1 .0
+  rows = planned .plan-surveyed .last .1 .1 .0
 
   few : c .records-in .result ≤ mostBlocks
   few = omega (arith, c .records-in .ensures, planned-few (start .args .s .now) (start .args .steps .now) (start .args .sheet .now) (planned .plan-surveyed .ensures) (told .enum-told .given .1))
 
   long : length rows ≡ sheetSize
-  long = omega (arith, planned .plan-surveyed .kept .1 .0)
+  long = omega (arith, planned .plan-surveyed .kept .1 .1 .0)
 
   front : length (take (rowSize * c .records-in .result) rows) ≡ rowSize * c .records-in .result
   front = length-take-le (rowSize * c .records-in .result) rows (omega (arith, few, long))
@@ -51,7 +51,7 @@ returns : tie.Need-returns
 returns c =
     let why = c .before .why .given in
     let p = c .before .before .before .before .before .before in
-    let a = p .before .before .before .before .before .before .args in
+    let a = p .before .before .before .before .before .before .before .args in
     measured-refused (a .s .now) (a .steps .now) (a .sheet .now) (p .plan-surveyed .ensures) (why .0 .0) (why .0 .1 .0) (why .1)
 
 returns-2 : tie.Need-returns-2

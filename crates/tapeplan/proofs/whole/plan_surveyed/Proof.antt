@@ -12,9 +12,9 @@ use Rattle.tapeplan.proofs.whole.plan_surveyed.Tie as tie
 
 plan-records-requires : tie.Need-plan-records-requires
 plan-records-requires c κs =
-    let m = c .before .before in
+    let m = c .before .before .before in
     let r = m .before .before in
-    let s = r .before .before .before .before .args .s .now in
+    let s = r .before .before .before .before .before .args .s .now in
     let head = head-given s (sym (r .read-head .ensures) ∙ ap limitsMeans (m .l .given .1)) in
     (head .0, sym (head .1 .0))
 
@@ -22,7 +22,7 @@ returns : tie.Need-returns
 returns c =
     let why = c .before .why .given .0 .0 in
     let r = c .before .before .before in
-    let a = r .before .before .before .before .args in
+    let a = r .before .before .before .before .before .args in
     let s = a .s .now in
     let head = head-refused s (sym (r .read-head .ensures) ∙ ap limitsMeans (c .before .why .given .1)) in
     let above : 0 < headRefusal s = rw (head .1) (head .0) in
