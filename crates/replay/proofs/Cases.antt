@@ -10,6 +10,7 @@ use Rattle.fields.specs.Bytes.{numberOf}
 use Rattle.fields.specs.Fields.{fieldOf}
 use Rattle.fields.specs.Signed.{signedOf, bitsOf}
 use Rattle.machine.specs.Checks.{limitsRefusal, limitsWithin}
+use Rattle.machine.specs.Torque.{stepsRefusal, falling}
 use Rattle.line.specs.Answers.{refused}
 use Rattle.line.specs.Blocks as line
 use Rattle.tape.specs.Tape.{limitsAt, zeroBits}
@@ -34,16 +35,20 @@ unfolding machine added taken callsFrom callOf blockOf fieldOf signedOf numberOf
 calls-read = refl
 
 -- accepted with 30 and 65 numbers lent, 11 with others, 9 with a byte too many before 11, 9 with no limits, 1 with limits of 0
-accepted : replayRefusal (machine ++ added ++ taken) 30 65 ≡ 0
-unfolding machine added taken replayRefusal traceRefusal limitsFault zeroBits limitsAt limitsFrom limitsRefusal limitsWithin split numberOf joined
+accepted : replayRefusal (machine ++ added ++ taken) (replicate 8 1) 30 65 ≡ 0
+unfolding machine added taken replayRefusal traceRefusal stepsRefusal falling limitsFault zeroBits limitsAt limitsFrom limitsRefusal limitsWithin split numberOf joined
 accepted = refl
 
+bad-steps : replayRefusal (machine ++ added ++ taken) (replicate 7 1) 29 66 ≡ 14
+unfolding machine added taken replayRefusal traceRefusal stepsRefusal falling limitsFault zeroBits limitsAt limitsFrom limitsRefusal limitsWithin split numberOf joined
+bad-steps = refl
+
 short-answers : replayRefusal (machine ++ added ++ taken) [] 29 65 ≡ 11
-unfolding machine added taken replayRefusal traceRefusal limitsFault zeroBits limitsAt limitsFrom limitsRefusal limitsWithin split numberOf joined
+unfolding machine added taken replayRefusal traceRefusal stepsRefusal falling limitsFault zeroBits limitsAt limitsFrom limitsRefusal limitsWithin split numberOf joined
 short-answers = refl
 
 long-plan : replayRefusal (machine ++ added ++ taken) [] 30 66 ≡ 11
-unfolding machine added taken replayRefusal traceRefusal limitsFault zeroBits limitsAt limitsFrom limitsRefusal limitsWithin split numberOf joined
+unfolding machine added taken replayRefusal traceRefusal stepsRefusal falling limitsFault zeroBits limitsAt limitsFrom limitsRefusal limitsWithin split numberOf joined
 long-plan = refl
 
 ragged : replayRefusal (machine ++ added ++ 0 ∷ []) [] 30 66 ≡ 9
@@ -55,7 +60,7 @@ unfolding replayRefusal traceRefusal
 no-limits = refl
 
 zero-limits : replayRefusal (replicate 24 0) (101 ∷ []) 1 1 ≡ 1
-unfolding replayRefusal traceRefusal limitsFault zeroBits limitsAt limitsFrom limitsRefusal limitsWithin split numberOf joined
+unfolding replayRefusal traceRefusal stepsRefusal falling limitsFault zeroBits limitsAt limitsFrom limitsRefusal limitsWithin split numberOf joined
 zero-limits = refl
 
 -- a refusal's row

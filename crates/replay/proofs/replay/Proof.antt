@@ -1,55 +1,83 @@
--- `replay::replay` meets its contract: the head decides, then the lists' lengths, else the calls are run.
+-- `replay::replay` meets its contract: making the planner decides, then the lists' lengths, else the calls are run. From the planner's promises.
+use mathlib.Core.List.{List}
 use mathlib.Core.Path.{_≡_, sym, ap, _∙_}
+use Prim.Native.Nat.{ℕ, _-_, _≤_}
 use native.Mathlib.Omega.{arith}
-use Rattle.machine.specs.Checks.{limitsRefusal}
-use Rattle.tape.specs.Tape.{limitsAt}
-use Rattle.tape.specs.Answers.{limitsMeans}
-use Rattle.replay.specs.Trace.{traceRefusal}
-use Rattle.replay.proofs.Heads.{head-passed, head-given, head-refused, answers-refused, plan-refused, trace-run}
+use lib.ListN.{length, take, drop, length-drop, length-take}
+use lib.Seq.{take-all}
+use Rattle.display.specs.Display.{checkedMeans}
+use Rattle.display.proofs.Answers.{told-refused, told-passed}
+use Rattle.tape.specs.Tape.{limitsBytes, limitsAt}
+use Rattle.planner.specs.Calls.{Freshened}
+use Rattle.replay.specs.Replays.{beginRefusal}
+use Rattle.replay.proofs.Heads.{begun-long, begin-refused, answers-refused, plan-refused, trace-run}
+use Rattle.replay.proofs.Runs.{demanded}
 use borrow.Author.Needs.{needs}
 use Rattle.replay.proofs.replay.Statement.{statement}
 use Rattle.replay.proofs.replay.Tie as tie
 
--- what is known where the head passes
-module _ (c : tie.After-known-told2) where
-  abbrev read : tie.After-read-head
-  read = c .before .before .before
+-- the part lent for the calls is all behind the limits
+behind : (trace : List ℕ) → take (length trace - limitsBytes) (drop limitsBytes trace) ≡ drop limitsBytes trace
+behind trace = take-all (length trace - limitsBytes) (drop limitsBytes trace) (omega (arith, length-drop limitsBytes trace))
+
+-- what is known where a planner was made
+module _ (c : tie.After-enum-told) where
+  abbrev made : tie.After-begin
+  made = c .before .before
 
   abbrev start : tie.Start
-  start = read .before .before .before .before
+  start = made .before .before .before .before .before .before
 
-  passed : (traceRefusal (start .args .trace .now) ≡ 0) × ((limitsAt (start .args .trace .now) ≡ c .before .l .given .0 .0) × (limitsRefusal (c .before .l .given .0 .0) ≡ 0))
-  passed = head-given (start .args .trace .now) (sym (read .read-head .ensures) ∙ ap limitsMeans (c .before .l .given .1))
+  abbrev trace : List ℕ
+  trace = start .args .trace .now
+
+  passed : beginRefusal trace (start .args .steps .now) ≡ 0
+  passed = told-passed (c .enum-told .given .1) (made .begin .ensures .number)
+
+  long : limitsBytes ≤ length trace
+  long = begun-long trace (start .args .steps .now) passed
 
 sub-if1 : tie.Need-sub-if1
-sub-if1 c = omega (arith, head-passed (start c .args .trace .now) (passed c .0) .0)
+sub-if1 c = omega (arith, long c)
 
 returns : tie.Need-returns
-returns c = let k = c .before in answers-refused (start k .args .trace .now) (start k .args .answers .now) (start k .args .plan .now) (passed k .0) (c .if1 .taken)
+returns c =
+    let k = c .before in
+    let a = start k .args in
+    answers-refused (trace k) (a .steps .now) (a .answers .now) (a .plan .now) (passed k) (c .if1 .taken)
 
 returns-2 : tie.Need-returns-2
-returns-2 c = let k = c .before .before in plan-refused (start k .args .trace .now) (start k .args .answers .now) (start k .args .plan .now) (passed k .0) (c .before .if1 .left) (c .if2 .taken)
+returns-2 c =
+    let k = c .before .before in
+    let a = start k .args in
+    plan-refused (trace k) (a .steps .now) (a .answers .now) (a .plan .now) (passed k) (c .before .if1 .left) (c .if2 .taken)
 
-run-all-requires : tie.Need-run-all-requires
-run-all-requires c κs =
-    let e = c .before .before in
-    let k = e .before .before in
-    (passed k .1 .1, head-passed (start k .args .trace .now) (passed k .0) .0, e .before .if1 .left, e .if2 .left)
+sub-run : tie.Need-sub-run
+sub-run c = omega (arith, long (c .before .before))
+
+part-run-start : tie.Need-part-run-start
+part-run-start c = omega (arith, long (c .before .before))
+
+run-requires : tie.Need-run-requires
+run-requires c κs = let k = c .before .before .before .before .before in simp (length-take, length-drop) (omega (arith, long k))
 
 returns-3 : tie.Need-returns-3
 returns-3 c =
-    let w = c .before .why in
-    let r = c .before .before .before in
-    let a = r .before .before .before .before .args in
-    head-refused (a .trace .now) (a .answers .now) (a .plan .now) (w .given .0 .0) (sym (r .read-head .ensures) ∙ ap limitsMeans (w .given .1))
+    let w = c .before .why .given in
+    let b = c .before .before .before in
+    let a = b .before .before .before .before .before .before .args in
+    begin-refused (a .trace .now) (a .steps .now) (a .answers .now) (a .plan .now) (w .0 .0) (sym (told-refused (w .1) (b .begin .ensures .number)))
 
 returns-4 : tie.Need-returns-4
 returns-4 c =
-    let r = c .before .before .before .before in
-    let e = r .before .before .before in
+    let t = c .before .before in
+    let ran = t .before .before .before .before .before in
+    let e = ran .before .before .before .before in
     let k = e .before .before in
-    trace-run (start k .args .trace .now) (start k .args .answers .now) (start k .args .plan .now) (r .run-all .result) (passed k .0) (e .before .if1 .left) (e .if2 .left)
-    (rw (passed k .1 .0) (r .run-all .ensures))
+    let a = start k .args in
+    let fresh = made k .begin .ensures .fresh (ap checkedMeans (k .enum-told .given .1)) in
+    trace-run (trace k) (a .steps .now) (a .answers .now) (a .plan .now) (t .tell .result) (passed k) (e .before .if1 .left) (e .if2 .left)
+    (demanded fresh (rw (behind (trace k)) at (ran .run .ensures)) (t .tell .ensures))
 
 pub replay-spec : {M : Type 1} → statement M
 replay-spec =
@@ -62,7 +90,11 @@ replay-spec =
     (λ c. search needs)
     returns
     returns-2
-    run-all-requires
+    sub-run
+    part-run-start
+    (λ c. search needs)
+    run-requires
+    (λ c κs. search needs)
     returns-3
     (λ c. search needs)
     (λ c. search needs)
