@@ -2,7 +2,7 @@
 use mathlib.Core.List.{List, _∷_, []}
 use mathlib.Core.Path.{_≡_, refl}
 use Prim.Native.Nat.{ℕ}
-use Rattle.machine.specs.Numbers.{builtIn}
+use Rattle.machine.specs.Torque.{machineOf}
 use Rattle.machine.specs.declared.Limits.{Limits}
 use Rattle.line.specs.Answers.{Answer, answerBy}
 use Rattle.line.specs.Blocks.{Call}
@@ -33,9 +33,9 @@ behind (take-next {n} {moves} {moves′} {numbers} {numbers′} one more) =
 
 -- DEMAND 3 for C. From `fullerecru_fresh` in any memory, for every list of `fullerecru_add` and `fullerecru_take`, refused ones included,
 -- then `fullerecru_told` and `fullerecru_shown`.
-pub exported-demand3 : {m₀ m m′ lent left : List ℕ} {l : Limits} {calls : List Call} {seen : List Seen} {refusal told number : ℕ}
-    → Freshened m₀ l refusal m → refusal ≡ 0 → ExportedAll m calls seen m′ → Told m′ told → Showed m′ lent (answerBy number) left
-    → ExportedDemand3 (builtIn l) calls seen told lent number left
+pub exported-demand3 : {m₀ m m′ loaded lent left : List ℕ} {l : Limits} {calls : List Call} {seen : List Seen} {refusal told number : ℕ}
+    → Freshened m₀ l loaded refusal m → refusal ≡ 0 → ExportedAll m calls seen m′ → Told m′ told → Showed m′ lent (answerBy number) left
+    → ExportedDemand3 (machineOf l loaded) calls seen told lent number left
 exported-demand3 fresh passed calls told showed =
     let b = behind calls in
     record { answers = b .answers; seen-are = b .seen-are; demand = demand3 fresh passed (b .called) told showed }

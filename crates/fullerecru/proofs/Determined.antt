@@ -43,7 +43,7 @@ taken-one {numbers} {moves} p q =
     )
 
 -- a whole tape's plan,
-pub planned-one : {tape lent a b p q : List ℕ} {n k : ℕ} → PlanLent tape n lent a p → PlanLent tape k lent b q → (n ≡ k) × (a ≡ b) × (p ≡ q)
+pub planned-one : {tape loaded lent a b p q : List ℕ} {n k : ℕ} → PlanLent tape loaded n lent a p → PlanLent tape loaded k lent b q → (n ≡ k) × (a ≡ b) × (p ≡ q)
 planned-one x y = (x .number-is ∙ sym (y .number-is), x .list-is ∙ sym (y .list-is), x .place-is ∙ sym (y .place-is))
 
 demanded-one : {m : Machine} {calls : List Call} {told : ℕ} {a b plan p q : List ℕ} → Demanded m calls told a plan p → Demanded m calls told b plan q → (a ≡ b) × (p ≡ q)
@@ -53,14 +53,14 @@ demanded-one {told} {p} {q} x y =
     (x .rows ∙ ap rowsOf (d .0) ∙ sym (y .rows), sym (take-append-drop (told + 1) p) ∙ (λ i. d .3 i ++ back i) ∙ take-append-drop (told + 1) q)
 
 -- and the run of a trace.
-pub replayed-one : {trace answers a b plan p q told t u : List ℕ} {n k : ℕ} → ReplayLent trace n answers a plan p told t → ReplayLent trace k answers b plan q told u
+pub replayed-one : {trace loaded answers a b plan p q told t u : List ℕ} {n k : ℕ} → ReplayLent trace loaded n answers a plan p told t → ReplayLent trace loaded k answers b plan q told u
     → (n ≡ k) × (a ≡ b) × (p ≡ q) × (t ≡ u)
-replayed-one {trace} {answers} {a} {b} {plan} {p} {q} {told} {t} {u} {n} {k} x y =
+replayed-one {trace} {loaded} {answers} {a} {b} {plan} {p} {q} {told} {t} {u} {n} {k} x y =
     let same : n ≡ k = x .number-is ∙ sym (y .number-is) in
-    let rest = go n x (subst (λ (j : ℕ). ReplayLent trace j answers b plan q told u) (sym same) y) in
+    let rest = go n x (subst (λ (j : ℕ). ReplayLent trace loaded j answers b plan q told u) (sym same) y) in
     (same, rest .0, rest .1, rest .2)
   where
-    go : (j : ℕ) → ReplayLent trace j answers a plan p told t → ReplayLent trace j answers b plan q told u → (a ≡ b) × (p ≡ q) × (t ≡ u)
+    go : (j : ℕ) → ReplayLent trace loaded j answers a plan p told t → ReplayLent trace loaded j answers b plan q told u → (a ≡ b) × (p ≡ q) × (t ≡ u)
     go zero x y = let d = demanded-one (x .run refl) (y .run refl) in (d .0, d .1, x .told-is ∙ sym (y .told-is))
     go (suc j) x y =
         let v = x .refused (omega arith) in

@@ -24,8 +24,9 @@ pub plain-back : {b : Block} {x y z : ℤ} {feed radius mark : ℕ} → b ≡ pl
 plain-back {feed} {radius} {mark} e f g h = e ∙ (λ i. plainBlock (read-back f i) (read-back g i) (read-back h i) feed radius mark)
 
 -- A fresh planner by its number and its limits.
-pub fresh-by : {m m′ : List ℕ} {read l : Limits} {n k : ℕ} → Freshened m read k m′ → n ≡ k → read ≡ l → Freshened m l n m′
-fresh-by {m} {m′} {read} {n} f e same = subst (λ (x : Limits). Freshened m x n m′) same (subst (λ (j : ℕ). Freshened m read j m′) (sym e) f)
+pub fresh-by : {m m′ loaded : List ℕ} {read l : Limits} {n k : ℕ} → Freshened m read loaded k m′ → n ≡ k → read ≡ l → Freshened m l loaded n m′
+fresh-by {m} {m′} {loaded} {read} {n} f e same =
+    subst (λ (x : Limits). Freshened m x loaded n m′) same (subst (λ (j : ℕ). Freshened m read loaded j m′) (sym e) f)
 
 -- The number of a number's answer is that number,
 pub number-back : (k : ℕ) → answerNumber (answerBy k) ≡ k

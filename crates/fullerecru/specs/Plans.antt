@@ -4,7 +4,7 @@ use mathlib.Core.Path.{_≡_}
 use Prim.Native.Nat.{ℕ, _<_}
 use lib.ListN.{length}
 use Rattle.profile.specs.Line.{Highest}
-use Rattle.machine.specs.Numbers.{builtIn}
+use Rattle.machine.specs.Torque.{machineOf}
 use Rattle.line.specs.Blocks.{freshLine, lineAfterAll}
 use Rattle.tape.specs.Tape.{limitsAt}
 use Rattle.display.specs.Display.{byNumber}
@@ -12,22 +12,22 @@ use Rattle.tapeplan.specs.Planned.{tapeSpans, tapePlan, planFault}
 use Rattle.replay.specs.Trace.{traceCalls}
 use Rattle.replay.specs.Replays.{replayRefusal, Demanded, Unchanged}
 
--- A whole tape planned: the number on the display, the place of the record at fault, and the list, which is the plan
+-- A whole tape planned with loaded torque steps: the number on the display, the place of the record at fault, and the list, which is the plan
 -- from rest to rest that no lawful profile is above anywhere, or as it was.
-pub record PlanLent (tape : List ℕ) (number : ℕ) (list list′ place′ : List ℕ) : Type 0 where
-  pub number-is : number ≡ planFault tape (length list) .number
-  pub place-is : place′ ≡ planFault tape (length list) .place ∷ []
-  pub list-is : list′ ≡ byNumber (planFault tape (length list) .number) (tapePlan tape) list
-  pub highest : number ≡ 0 → Highest 0 (tapeSpans tape) list′
+pub record PlanLent (tape loaded : List ℕ) (number : ℕ) (list list′ place′ : List ℕ) : Type 0 where
+  pub number-is : number ≡ planFault tape loaded (length list) .number
+  pub place-is : place′ ≡ planFault tape loaded (length list) .place ∷ []
+  pub list-is : list′ ≡ byNumber (planFault tape loaded (length list) .number) (tapePlan tape loaded) list
+  pub highest : number ≡ 0 → Highest 0 (tapeSpans tape loaded) list′
 
 -- the number of blocks held after a trace
-abbrev pub toldAfter : List ℕ → ℕ
-toldAfter trace = length (lineAfterAll (freshLine (builtIn (limitsAt trace))) (traceCalls trace) .blocks)
+abbrev pub toldAfter : (trace loaded : List ℕ) → ℕ
+toldAfter trace loaded = length (lineAfterAll (freshLine (machineOf (limitsAt trace) loaded)) (traceCalls trace) .blocks)
 
--- A trace run, or refused: the number on the display; demand 3 where it was run, with the number told in its list; all
+-- A trace run with loaded torque steps, or refused: the number on the display; demand 3 where it was run, with the number told in its list; all
 -- three lists as they were where it was refused.
-pub record ReplayLent (trace : List ℕ) (number : ℕ) (answers answers′ plan plan′ told told′ : List ℕ) : Type 0 where
-  pub number-is : number ≡ replayRefusal trace (length answers) (length plan)
-  pub told-is : told′ ≡ byNumber number (toldAfter trace ∷ []) told
-  pub run : number ≡ 0 → Demanded (builtIn (limitsAt trace)) (traceCalls trace) (toldAfter trace) answers′ plan plan′
+pub record ReplayLent (trace loaded : List ℕ) (number : ℕ) (answers answers′ plan plan′ told told′ : List ℕ) : Type 0 where
+  pub number-is : number ≡ replayRefusal trace loaded (length answers) (length plan)
+  pub told-is : told′ ≡ byNumber number (toldAfter trace loaded ∷ []) told
+  pub run : number ≡ 0 → Demanded (machineOf (limitsAt trace) loaded) (traceCalls trace) (toldAfter trace loaded) answers′ plan plan′
   pub refused : 0 < number → Unchanged answers plan answers′ plan′

@@ -37,12 +37,18 @@ fn hand_out(g: Given, moves: &mut [i64], numbers: &mut [u64])
 }
 
 // Makes a fresh planner of nine limits: accelerations x, y, z, µm/s²; speeds x, y, z, µm/s; corner
-// jump, µm/s; chord tolerance, µm; tick, microseconds. Refuses by 1.
+// jump, µm/s; chord tolerance, µm; tick, microseconds; and of the torque steps that are loaded, handed
+// over as a pointer and their number: eight percentages, a byte each, or none for the built-in steps.
+// Refuses by 1, then by 14.
 #[no_mangle]
-pub extern "C" fn fullerecru_fresh(memory: &mut [u64; NUMBERS], limits: &[u64; 9]) -> u64
-    ensures { λ r. ⌜ Freshened (now (memory .entry)) (limitsFrom (now (limits .entry))) r (now (memory .exit)) ⌝ }
+pub extern "C" fn fullerecru_fresh(
+    memory: &mut [u64; NUMBERS],
+    limits: &[u64; 9],
+    steps: &[u8],
+) -> u64
+    ensures { λ r. ⌜ Freshened (now (memory .entry)) (limitsFrom (now (limits .entry))) (now (steps .entry)) r (now (memory .exit)) ⌝ }
 {
-    checked_number(fresh(memory, limits_from(limits)))
+    checked_number(fresh(memory, limits_from(limits), steps))
 }
 
 // Adds a block: moves, µm; feed, µm/s; radius, µm, 0 for no curve; mark. Refuses by 2 to 7.

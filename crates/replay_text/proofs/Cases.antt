@@ -14,6 +14,7 @@ use Rattle.machine.specs.Line.{spansOf}
 use Rattle.line.specs.Answers.{accepted, gave, refused}
 use Rattle.line.specs.Blocks.{lineAnswer, lineAfter, lineAnswers, lineAfterAll}
 use Rattle.line.specs.declared.Given.{Given}
+use Rattle.machine.specs.Torque.{stepsRefusal}
 use Rattle.tape.specs.Tape.{limitsAt, zeroBits}
 use Rattle.tape.specs.Answers.{limitsReadRefusal, limitsFault}
 use Rattle.replay.specs.Rows.{eachOf}
@@ -48,17 +49,21 @@ closing = refl
 machine : List ℕ
 machine = 1 ∷ 134 ∷ 160 ∷ 0 ∷ 195 ∷ 80 ∷ 0 ∷ 97 ∷ 168 ∷ 30 ∷ 132 ∷ 129 ∷ 232 ∷ 72 ∷ 30 ∷ 132 ∷ 128 ∷ 0 ∷ 250 ∷ 0 ∷ 8 ∷ 250 ∷ 0 ∷ 0 ∷ []
 
--- no bytes: `refused 9 at 0`; limits of 0: `refused 1 at 0`
-no-limits : replayText [] ≡ 114 ∷ 101 ∷ 102 ∷ 117 ∷ 115 ∷ 101 ∷ 100 ∷ 32 ∷ 57 ∷ 32 ∷ 97 ∷ 116 ∷ 32 ∷ 48 ∷ 10 ∷ []
+-- no bytes: `refused 9 at 0`; limits of 0 with bad steps: `refused 1 at 0`; machine M with bad steps: `refused 14 at 0`
+no-limits : replayText [] [] ≡ 114 ∷ 101 ∷ 102 ∷ 117 ∷ 115 ∷ 101 ∷ 100 ∷ 32 ∷ 57 ∷ 32 ∷ 97 ∷ 116 ∷ 32 ∷ 48 ∷ 10 ∷ []
 unfolding replayText limitsReadRefusal line spaced decimal digitsOf refusedWords
 no-limits = refl
 
-zero-limits : replayText (replicate 24 0) ≡ 114 ∷ 101 ∷ 102 ∷ 117 ∷ 115 ∷ 101 ∷ 100 ∷ 32 ∷ 49 ∷ 32 ∷ 97 ∷ 116 ∷ 32 ∷ 48 ∷ 10 ∷ []
+zero-limits : replayText (replicate 24 0) (101 ∷ []) ≡ 114 ∷ 101 ∷ 102 ∷ 117 ∷ 115 ∷ 101 ∷ 100 ∷ 32 ∷ 49 ∷ 32 ∷ 97 ∷ 116 ∷ 32 ∷ 48 ∷ 10 ∷ []
 unfolding replayText limitsReadRefusal limitsFault zeroBits limitsAt limitsFrom limitsRefusal limitsWithin split numberOf joined line spaced decimal digitsOf refusedWords
 zero-limits = refl
 
+bad-steps : replayText machine (101 ∷ []) ≡ 114 ∷ 101 ∷ 102 ∷ 117 ∷ 115 ∷ 101 ∷ 100 ∷ 32 ∷ 49 ∷ 52 ∷ 32 ∷ 97 ∷ 116 ∷ 32 ∷ 48 ∷ 10 ∷ []
+unfolding machine replayText limitsReadRefusal stepsRefusal limitsFault zeroBits limitsAt limitsFrom limitsRefusal limitsWithin split numberOf joined line spaced decimal digitsOf refusedWords
+bad-steps = refl
+
 -- a take, and one byte more: `refused 8`, `refused 9 at 2`, `held 0`, `plan 0`
-cut : replayText (machine ++ replicate 29 0)
+cut : replayText (machine ++ replicate 29 0) []
     ≡ 114 ∷ 101 ∷ 102 ∷ 117 ∷ 115 ∷ 101 ∷ 100 ∷ 32 ∷ 56 ∷ 10 ∷ 114 ∷ 101 ∷ 102 ∷ 117 ∷ 115 ∷ 101 ∷ 100 ∷ 32 ∷ 57 ∷ 32 ∷ 97 ∷ 116 ∷ 32 ∷ 50 ∷ 10 ∷ 104 ∷ 101 ∷ 108 ∷ 100 ∷ 32 ∷ 48 ∷ 10 ∷ 112 ∷ 108 ∷ 97 ∷ 110 ∷ 32 ∷ 48 ∷ 10 ∷ []
-unfolding machine replayText limitsReadRefusal limitsFault zeroBits limitsAt limitsFrom limitsRefusal limitsWithin split numberOf joined callsFrom callOf fieldOf eachOf answerText lineAnswers lineAnswer lineAfterAll lineAfter spansOf planOf startLimit forward line spaced decimal digitsOf refusedWords
+unfolding machine replayText limitsReadRefusal stepsRefusal limitsFault zeroBits limitsAt limitsFrom limitsRefusal limitsWithin split numberOf joined callsFrom callOf fieldOf eachOf answerText lineAnswers lineAnswer lineAfterAll lineAfter spansOf planOf startLimit forward line spaced decimal digitsOf refusedWords
 cut = refl

@@ -10,7 +10,7 @@ use lib.Dec.{eqb}
 use lib.ListN.{length, take, drop, length-append, length-drop, length-take}
 use lib.Seq.{take-append-le, drop-append-le, drop-append-add, take-take}
 use Rattle.machine.specs.Checks.{limitsRefusal}
-use Rattle.machine.specs.Numbers.{builtIn}
+use Rattle.machine.specs.Torque.{machineOf, stepsRefusal}
 use Rattle.machine.specs.declared.Limits.{Limits}
 use Rattle.line.specs.Blocks.{freshLine}
 use Rattle.planner.specs.Calls.{Freshened}
@@ -18,7 +18,7 @@ use Rattle.planner.proofs.Demand.{called-line}
 use Rattle.tape.specs.Tape.{limitsBytes, limitsAt, zeroBits}
 use Rattle.display.specs.Display.{given, refused}
 use Rattle.tape.specs.Answers.{readLimits, limitsReadRefusal, limitsFault, raggedBelow}
-use Rattle.display.proofs.Answers.{at-zero, above-zero, then-zero, given-is, refused-is}
+use Rattle.display.proofs.Answers.{at-zero, above-zero, then-first, then-second, then-zero, given-is, refused-is}
 use Rattle.tape.proofs.Answers.{enough, too-few}
 use Rattle.tape.proofs.Checks.{limits-faultless}
 use Rattle.replay.specs.Runs.{Ran}
@@ -26,7 +26,7 @@ use Rattle.replay.specs.Trace.{callBytes, callOf, callIn, callsFrom, wholeCalls
 use Rattle.replay.proofs.Runs.{ran-both, ran-none}
 use Rattle.text.specs.Text.{refusedAt}
 use Rattle.text.proofs.Store.{take-front}
-use Rattle.replay_text.specs.Texts.{answerText, answersText, cutPlace, cutText, callsText, replayText}
+use Rattle.replay_text.specs.Texts.{answerText, answersText, cutPlace, cutText, callsText, textRefusal, replayText}
 use Rattle.replay_text.specs.Chunks.{mostCalls, chunkSize, chunkCalls}
 use Rattle.replay_text.specs.Runs.{Closed}
 use Rattle.replay_text.specs.Turns.{chunkBytes, chunksJoined, Chunked, placeIn, Turns, none, turn}
@@ -115,13 +115,6 @@ head-same s =
     short : raggedBelow limitsBytes (take limitsBytes s) ≡ raggedBelow limitsBytes s
     short = go (decLt (length s) limitsBytes)
 
--- A trace whose limits are refused has that one line.
-pub refusal-written : (s : List ℕ) {n : ℕ} → readLimits (take limitsBytes s) ≡ refused n → refusedAt n 0 ≡ replayText s
-unfolding replayText readLimits
-refusal-written s e =
-    let r = refused-is (limitsAt s) (limitsReadRefusal s) (limitsReadRefusal s) (sym e ∙ head-same s) in
-    ap (λ (n : ℕ). refusedAt n 0) (r .1) ∙ sym (above-zero _ _ (r .0))
-
 -- Limits that are read pass, and are the trace's.
 head-read : (s : List ℕ) {l : Limits} → readLimits (take limitsBytes s) ≡ given l → (limitsReadRefusal s ≡ 0) × ((l ≡ limitsAt s) × (limitsRefusal l ≡ 0))
 unfolding readLimits limitsReadRefusal
@@ -129,16 +122,36 @@ head-read s e =
     let r = given-is (limitsAt s) (limitsReadRefusal s) (limitsReadRefusal s) (sym e ∙ head-same s) in
     (r .0, (r .1, ap limitsRefusal (r .1) ∙ limits-faultless s (then-zero (raggedBelow limitsBytes s) (r .0) .1) .1))
 
--- Any other trace: what is written chunk by chunk from a fresh planner, then the line of a cut call, and then the closing lines are its whole text.
-pub trace-written : (s : List ℕ) {l : Limits} {chunks : List (List ℕ)} {m₀ m m′ written text text′ : List ℕ} {n end : ℕ} → readLimits (take limitsBytes s) ≡ given l
-    → Freshened m₀ l n m → chunksJoined chunks ≡ drop limitsBytes s → Chunked chunks → Turns chunks m m′ written → Closed m′ text end text′
-    → written ++ cutText (placeIn 0 chunks) ++ take end text′ ≡ replayText s
-unfolding replayText
-trace-written s {l} {chunks} {m} {m′} {written} {text′} {end} e f j c r closing =
-    let head = head-read s e in
-    let ran = turns-whole c r in
-    let run = called-line (ran .called) (freshLine (builtIn l)) (f .line (f .answer ∙ head .1 .1)) in
-    let place : placeIn 0 chunks ≡ cutPlace 0 (length s - limitsBytes) = place-whole 0 chunks c ∙ ap (λ (b : List ℕ). cutPlace 0 (length b)) j ∙ ap (cutPlace 0) (length-drop limitsBytes s) in
-    (λ i. (ran .all-is ∙ ap answersText (run .0)) i ++ cutText (place i) ++ closed-line closing _ (run .1) i)
-    ∙ (λ i. callsText (builtIn (head .1 .0 i)) (wholeCalls (j i)) (cutPlace 0 (length s - limitsBytes)))
-    ∙ sym (at-zero _ _ (head .0))
+module _ (s loaded : List ℕ) where
+  -- A trace or steps that are refused have that one line,
+  refused-line : {n : ℕ} → 0 < n → n ≡ textRefusal s loaded → refusedAt n 0 ≡ replayText s loaded
+  unfolding replayText
+  refused-line h e = let above : 0 < textRefusal s loaded = rw (← e) h in ap (λ (n : ℕ). refusedAt n 0) e ∙ sym (above-zero _ _ above)
+
+  -- by the limits,
+  pub refusal-written : {n : ℕ} → readLimits (take limitsBytes s) ≡ refused n → refusedAt n 0 ≡ replayText s loaded
+  unfolding readLimits
+  refusal-written e =
+      let r = refused-is (limitsAt s) (limitsReadRefusal s) (limitsReadRefusal s) (sym e ∙ head-same s) in
+      refused-line (rw (r .1) (r .0)) (r .1 ∙ sym (then-first (stepsRefusal loaded) (r .0)))
+
+  -- or by the steps, which the planner refuses.
+  pub steps-written : {l : Limits} {n : ℕ} {m₀ m : List ℕ} → readLimits (take limitsBytes s) ≡ given l → Freshened m₀ l loaded n m → 0 < n → refusedAt n 0 ≡ replayText s loaded
+  steps-written e f h =
+      let head = head-read s e in
+      refused-line h (f .answer ∙ then-second (head .1 .1) refl ∙ sym (then-second (head .0) refl))
+
+  -- Any other trace: what is written chunk by chunk from a fresh planner, then the line of a cut call, and then the closing lines are its whole text.
+  pub trace-written : {l : Limits} {chunks : List (List ℕ)} {m₀ m m′ written text text′ : List ℕ} {n end : ℕ} → readLimits (take limitsBytes s) ≡ given l
+      → Freshened m₀ l loaded n m → n ≡ 0 → chunksJoined chunks ≡ drop limitsBytes s → Chunked chunks → Turns chunks m m′ written → Closed m′ text end text′
+      → written ++ cutText (placeIn 0 chunks) ++ take end text′ ≡ replayText s loaded
+  unfolding replayText
+  trace-written {l} {chunks} {m} {m′} {written} {text′} {end} e f passed j c r closing =
+      let head = head-read s e in
+      let ran = turns-whole c r in
+      let run = called-line (ran .called) (freshLine (machineOf l loaded)) (f .line passed) in
+      let steps = sym (then-second {b = stepsRefusal loaded} (head .1 .1) refl) ∙ sym (f .answer) ∙ passed in
+      let place : placeIn 0 chunks ≡ cutPlace 0 (length s - limitsBytes) = place-whole 0 chunks c ∙ ap (λ (b : List ℕ). cutPlace 0 (length b)) j ∙ ap (cutPlace 0) (length-drop limitsBytes s) in
+      (λ i. (ran .all-is ∙ ap answersText (run .0)) i ++ cutText (place i) ++ closed-line closing _ (run .1) i)
+      ∙ (λ i. callsText (machineOf (head .1 .0 i) loaded) (wholeCalls (j i)) (cutPlace 0 (length s - limitsBytes)))
+      ∙ sym (at-zero _ _ (then-second (head .0) steps))

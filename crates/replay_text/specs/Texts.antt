@@ -4,14 +4,14 @@ use mathlib.Core.Bool.{cond}
 use mathlib.Core.List.{List, _++_, []}
 use lib.Dec.{eqb}
 use lib.ListN.{length}
-use Rattle.machine.specs.Numbers.{builtIn}
+use Rattle.machine.specs.Torque.{machineOf, stepsRefusal}
 use Rattle.machine.specs.declared.Machine.{Machine}
 use Rattle.line.specs.Answers.{Answer, accepted, gave, refused}
 use Rattle.line.specs.Blocks.{Call, freshLine, lineAnswers, lineAfterAll, linePlan}
 use Rattle.text.specs.Text as text
 use Rattle.listing.specs.Given.{givenText}
 use Rattle.tape.specs.Tape.{limitsBytes, limitsAt}
-use Rattle.display.specs.Display.{byNumber}
+use Rattle.display.specs.Display.{byNumber, _then_}
 use Rattle.tape.specs.Answers.{limitsReadRefusal}
 use Rattle.replay.specs.Rows.{eachOf}
 use Rattle.replay.specs.Trace.{callBytes, traceCalls}
@@ -45,7 +45,13 @@ callsText m calls place =
     ++ cutText place
     ++ closingText (length (lineAfterAll (freshLine m) calls .blocks)) (linePlan (lineAfterAll (freshLine m) calls))
 
--- the text of the trace of any bytes: of its whole calls, or the refusal's line where it has no whole limits (9) or limits that do not pass (1)
-unfoldable pub replayText : List ℕ → List ℕ
-replayText s =
-    byNumber (limitsReadRefusal s) (callsText (builtIn (limitsAt s)) (traceCalls s) (cutPlace 0 (length s - limitsBytes))) (text.refusedAt (limitsReadRefusal s) 0)
+-- what is refused of any bytes as a trace and as loaded torque steps: no whole limits (9), limits that do not pass (1), then the steps (14)
+abbrev pub textRefusal : (s loaded : List ℕ) → ℕ
+textRefusal s loaded = limitsReadRefusal s then stepsRefusal loaded
+
+-- the text of the trace: of its whole calls, or the refusal's line
+unfoldable pub replayText : (s loaded : List ℕ) → List ℕ
+replayText s loaded =
+    byNumber (textRefusal s loaded)
+    (callsText (machineOf (limitsAt s) loaded) (traceCalls s) (cutPlace 0 (length s - limitsBytes)))
+    (text.refusedAt (textRefusal s loaded) 0)
