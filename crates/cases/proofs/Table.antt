@@ -9,7 +9,10 @@ use lib.Dec.{eqb}
 use Rattle.arith.specs.Root.{rootOf, rootByDigits, nextRoot}
 use Rattle.arith.specs.Quotient.{cappedQuotient}
 use Rattle.profile.specs.Passes.{brake, startLimit, forward, planOf}
-use Rattle.machine.specs.Numbers.{lengthFrom, axisLimit, eachAxis, speedOf, torqueOf, torquePercent, axisAccel, accelOf, reachFrom, chordFactor, chordCap, blockCapFrom, numbersOf, turnFrom, cornerFrom, cornerCap, junctionCap, peakOf, upOf, downOf, rampOf}
+use Rattle.machine.specs.Numbers.{lengthFrom, axisLimit, eachAxis, speedOf, axisAccel, accelOf, reachFrom, chordFactor, chordCap, blockCapFrom, numbersOf, turnFrom, cornerFrom, cornerCap, junctionCap, peakOf, upOf, downOf, rampOf}
+use Rattle.machine.specs.Torque.{falling, stepsRefusal, torquePercent}
+use Rattle.fields.specs.Bytes.{numberOf}
+use Rattle.fields.specs.Layouts.{joined}
 use Rattle.machine.specs.Checks.{limitsWithin, limitsRefusal, greatestMove, blockRefusal}
 use Rattle.machine.specs.Line.{spansAfter, spansOf}
 use Rattle.line.specs.Blocks.{lineAnswer, lineAfter, lineAnswers}
@@ -43,7 +46,7 @@ unfolding right
 right-holds [] e = done
 right-holds (c ∷ rest) e = let h = both (same (c .computed) (c .expected)) (right rest) e in also (same-true _ _ (h .0)) (right-holds rest (h .1))
 
--- document 01's starred proof cases
+-- document 01's starred proof cases, and those of the requests
 pub every-case-holds : Holds table
-unfolding table right same rootOf rootByDigits nextRoot cappedQuotient brake startLimit forward planOf lengthFrom axisLimit eachAxis speedOf torqueOf torquePercent axisAccel accelOf reachFrom chordFactor chordCap blockCapFrom numbersOf turnFrom cornerFrom cornerCap junctionCap peakOf upOf downOf rampOf spansAfter spansOf limitsWithin limitsRefusal greatestMove blockRefusal lineAnswer lineAfter lineAnswers
+unfolding table right same rootOf rootByDigits nextRoot cappedQuotient brake startLimit forward planOf lengthFrom axisLimit eachAxis speedOf numberOf joined falling stepsRefusal torquePercent axisAccel accelOf reachFrom chordFactor chordCap blockCapFrom numbersOf turnFrom cornerFrom cornerCap junctionCap peakOf upOf downOf rampOf spansAfter spansOf limitsWithin limitsRefusal greatestMove blockRefusal lineAnswer lineAfter lineAnswers
 every-case-holds = right-holds table refl

@@ -1,8 +1,9 @@
 -- What document 01's proof cases run on: machine M, and blocks of feed 20,000 with no curve unless said.
 use Prim.Native.Nat.{ℕ}
+use mathlib.Core.List.{List, []}
 use lib.IntN.{ℤ}
 use Rattle.machine.specs.Labels.{plainBlock}
-use Rattle.machine.specs.Numbers.{builtIn}
+use Rattle.machine.specs.Torque.{machineOf}
 use Rattle.machine.specs.declared.Axes.{Axes}
 use Rattle.machine.specs.declared.Limits.{Limits}
 use Rattle.machine.specs.declared.Machine.{Machine}
@@ -20,9 +21,12 @@ limitsWith chord tick = record { accel = every 200_000; speed = every 1_000_000;
 abbrev pub limitsM : Limits
 limitsM = limitsWith 1 2_000
 
--- machine M
+-- machine M with loaded torque steps (Q-3), and with none
+abbrev pub machineWith : (loaded : List ℕ) → Machine
+machineWith loaded = machineOf limitsM loaded
+
 abbrev pub machineM : Machine
-machineM = builtIn limitsM
+machineM = machineWith []
 
 -- a block on a curve of a radius, µm
 abbrev pub curved : (radius : ℕ) (x y z : ℤ) → Block

@@ -9,11 +9,13 @@ use Rattle.profile.specs.Line.{numberAt}
 use Rattle.profile.specs.Passes.{planOf}
 use Rattle.machine.specs.Numbers.{CornerCap, none, upTo, lengthOf, accelOf, reachOf, chordCap, blockCap, cornerCap, numbersOf, rampOf}
 use Rattle.machine.specs.Line.{spansOf}
+use Rattle.machine.specs.Labels.{plainBlock}
+use Rattle.machine.specs.Torque.{stepsRefusal, machineRefusal}
 use Rattle.machine.specs.declared.Block.{Block}
 use Rattle.machine.specs.declared.Ramp.{Ramp}
 use Rattle.line.specs.Answers.{answerNumber}
 use Rattle.line.specs.Blocks.{Call, add, take, freshLine, lineAnswers}
-use Rattle.cases.specs.Shop.{limitsM, limitsWith, machineM, curved, block}
+use Rattle.cases.specs.Shop.{limitsM, limitsWith, machineM, machineWith, curved, block}
 
 -- a case: the numbers that are computed, and those of the paper
 pub record Case : Type 0 where
@@ -47,6 +49,13 @@ capNumbers (upTo q) = q ∷ []
 -- the plan from rest of a line of blocks on machine M
 abbrev plan : List Block → List ℕ
 plan line = planOf 0 (spansOf machineM line)
+
+-- Q-3's case: the acceleration of (100000,0,0) at feed 300,000, and the plan of two of them, with loaded steps
+abbrev long : Block
+long = plainBlock (pos 100_000) (pos 0) (pos 0) 300_000 0 0
+
+abbrev loadedNumbers : (loaded : List ℕ) → List ℕ
+loadedNumbers loaded = accelOf (machineWith loaded) long ∷ planOf 0 (spansOf (machineWith loaded) (long ∷ long ∷ []))
 
 -- peak, up, cruise and down of a line's first block, by the first two numbers of its plan
 abbrev rampNumbers : Ramp → List ℕ
@@ -92,6 +101,33 @@ table =
     ∷ (firstRamp east (north ∷ []) gives 201_000_000 ∷ 502 ∷ 0 ∷ 498 ∷ [])
     -- Two blocks (1000,0,0): plan 0, 400,000,000, 0
     ∷ (plan (east ∷ east ∷ []) gives 0 ∷ 400_000_000 ∷ 0 ∷ [])
+    -- Q-3: no steps loaded, eight times 100, 100 down to 30, eight times 1
+    ∷ (loadedNumbers [] gives 180_000 ∷ 0 ∷ 36_000_000_000 ∷ 0 ∷ [])
+    ∷ (loadedNumbers (replicate 8 100) gives 200_000 ∷ 0 ∷ 40_000_000_000 ∷ 0 ∷ [])
+    ∷ (loadedNumbers (100 ∷ 90 ∷ 80 ∷ 70 ∷ 60 ∷ 50 ∷ 40 ∷ 30 ∷ []) gives 160_000 ∷ 0 ∷ 32_000_000_000 ∷ 0 ∷ [])
+    ∷ (loadedNumbers (replicate 8 1) gives 2_000 ∷ 0 ∷ 400_000_000 ∷ 0 ∷ [])
+    -- Q-3: these are accepted, and so are none and the built-in ones; refused by 14 are seven and nine, a 0, a 101, and a rise at the second, the
+    -- fifth and the last step; bad limits come first
+    ∷ (
+      map stepsRefusal ([] ∷ replicate 8 100 ∷ replicate 8 1 ∷ (100 ∷ 90 ∷ 80 ∷ 70 ∷ 60 ∷ 50 ∷ 40 ∷ 30 ∷ []) ∷ (100 ∷ 100 ∷ 90 ∷ 80 ∷ 70 ∷ 60 ∷ 50 ∷ 40 ∷ []) ∷ [])
+      gives replicate 5 0
+    )
+    ∷ (
+      map stepsRefusal (
+        replicate 7 1
+        ∷ replicate 9 1
+        ∷ (0 ∷ replicate 7 1)
+        ∷ (replicate 7 1 ++ 0 ∷ [])
+        ∷ replicate 8 101
+        ∷ (101 ∷ replicate 7 100)
+        ∷ (90 ∷ 91 ∷ replicate 6 1)
+        ∷ (replicate 4 50 ++ 51 ∷ replicate 3 1)
+        ∷ (replicate 7 1 ++ 2 ∷ [])
+        ∷ []
+      )
+      gives replicate 9 14
+    )
+    ∷ (machineRefusal (limitsWith 0 2_000) (0 ∷ []) ∷ machineRefusal limitsM (0 ∷ []) ∷ machineRefusal limitsM [] ∷ [] gives 1 ∷ 14 ∷ 0 ∷ [])
     -- Add 64 is taken, 65 is refused by 7; after one take it is accepted
     ∷ (displayed (replicate 65 (add east) ++ take ∷ add east ∷ []) gives (replicate 64 0 ++ 7 ∷ 0 ∷ 0 ∷ []))
     ∷ []

@@ -7,9 +7,12 @@ use lib.IntN.{pos}
 use lib.ListN.{length}
 use Rattle.arith.specs.Root.{rootOf, rootByDigits, nextRoot}
 use Rattle.arith.specs.Quotient.{cappedQuotient}
+use Rattle.fields.specs.Bytes.{numberOf}
+use Rattle.fields.specs.Layouts.{joined}
 use Rattle.profile.specs.Passes.{brake, startLimit, forward, planOf}
 use Rattle.machine.specs.Checks.{limitsWithin, limitsRefusal, greatestMove, blockRefusal}
-use Rattle.machine.specs.Numbers.{lengthFrom, axisLimit, eachAxis, speedOf, torqueOf, torquePercent, axisAccel, accelOf, reachFrom, chordFactor, blockCapFrom, numbersOf, turnFrom, cornerFrom, cornerCap, junctionCap, peakOf, upOf, downOf, rampOf}
+use Rattle.machine.specs.Numbers.{lengthFrom, axisLimit, eachAxis, speedOf, axisAccel, accelOf, reachFrom, chordFactor, blockCapFrom, numbersOf, turnFrom, cornerFrom, cornerCap, junctionCap, peakOf, upOf, downOf, rampOf}
+use Rattle.machine.specs.Torque.{machineRefusal, stepsRefusal, torquePercent}
 use Rattle.machine.specs.Line.{spansAfter, spansOf}
 use Rattle.machine.specs.declared.Block.{Block}
 use Rattle.machine.specs.declared.Limits.{Limits}
@@ -20,20 +23,20 @@ use Rattle.planner.specs.Calls.{MemoryHolds, Freshened, Called, Showed}
 use Rattle.cases.specs.Shop.{limitsM, machineM}
 use Rattle.client.specs.Work.{Gives, blockOf, lineOfOne, lineOfTwo}
 
--- the limits of machine M pass 1
-limits-pass : limitsRefusal limitsM ≡ 0
-unfolding limitsRefusal limitsWithin
-limits-pass = refl
+-- the limits of machine M pass 1, and no loaded steps 14
+machine-pass : machineRefusal limitsM [] ≡ 0
+unfolding limitsRefusal limitsWithin stepsRefusal
+machine-pass = refl
 
 -- one block added to a fresh planner on machine M, and two: the memory holds their line
-held-fresh : {m n : List ℕ} {l : Limits} {refusal : ℕ} → l ≡ limitsM → Freshened m l refusal n → MemoryHolds n (freshLine machineM)
-held-fresh e f = rw e at (f .line (f .answer ∙ ap limitsRefusal e ∙ limits-pass))
+held-fresh : {m n : List ℕ} {l : Limits} {refusal : ℕ} → l ≡ limitsM → Freshened m l [] refusal n → MemoryHolds n (freshLine machineM)
+held-fresh e f = rw e at (f .line (f .answer ∙ ap (λ (l : Limits). machineRefusal l []) e ∙ machine-pass))
 
 module _ (a b : Block) {m n p : List ℕ} {l : Limits} {refusal : ℕ} {x : Block} {said : Answer} (el : l ≡ limitsM) (ex : x ≡ a) where
-  pub held-one : Freshened m l refusal n → Called n (add x) said p → MemoryHolds p (lineOfOne a)
+  pub held-one : Freshened m l [] refusal n → Called n (add x) said p → MemoryHolds p (lineOfOne a)
   held-one f g = rw ex at (g .line (freshLine machineM) (held-fresh el f) .1)
 
-  pub held-two : {q : List ℕ} {y : Block} {also : Answer} → y ≡ b → Freshened m l refusal n → Called n (add x) said p → Called p (add y) also q → MemoryHolds q (lineOfTwo a b)
+  pub held-two : {q : List ℕ} {y : Block} {also : Answer} → y ≡ b → Freshened m l [] refusal n → Called n (add x) said p → Called p (add y) also q → MemoryHolds q (lineOfTwo a b)
   held-two ey f g h = rw ey at (h .line (lineOfOne a) (held-one f g) .1)
 
 -- the right-angle pair; a block along X, and one that does not move
@@ -73,7 +76,7 @@ pub record Worked : Type 0 where
   pub stays : length (lineAfter (lineOfOne ahead) (add still) .blocks) ≡ 1
 
 pub worked : Worked
-unfolding lineAfter lineAnswer givenOf rootOf rootByDigits nextRoot cappedQuotient brake startLimit forward planOf lengthFrom axisLimit eachAxis speedOf torqueOf torquePercent axisAccel accelOf reachFrom chordFactor blockCapFrom numbersOf turnFrom cornerFrom cornerCap junctionCap peakOf upOf downOf rampOf spansAfter spansOf greatestMove blockRefusal
+unfolding lineAfter lineAnswer givenOf rootOf rootByDigits nextRoot cappedQuotient brake startLimit forward planOf lengthFrom axisLimit eachAxis speedOf numberOf joined torquePercent axisAccel accelOf reachFrom chordFactor blockCapFrom numbersOf turnFrom cornerFrom cornerCap junctionCap peakOf upOf downOf rampOf spansAfter spansOf greatestMove blockRefusal
 worked = record { straight = refl; first = refl; second = refl; refusal = refl; stays = refl }
 
 -- an answer has one case, and one block or number in it

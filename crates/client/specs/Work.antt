@@ -5,7 +5,7 @@ use Prim.Native.Nat.{ℕ}
 use lib.IntN.{ℤ, pos}
 use Rattle.display.specs.Display.{checkedMeans}
 use Rattle.machine.specs.Labels.{plainBlock}
-use Rattle.machine.specs.Numbers.{builtIn}
+use Rattle.machine.specs.Torque.{machineOf}
 use Rattle.machine.specs.declared.Block.{Block}
 use Rattle.machine.specs.declared.Limits.{Limits}
 use Rattle.machine.specs.declared.Ramp.{Ramp}
@@ -31,11 +31,11 @@ lineOfTwo a b = lineAfter (lineOfOne a) (add b)
 abbrev pub pairCalls : Block → Block → List Call
 pairCalls a b = add a ∷ add b ∷ take ∷ []
 
--- demand 3 of these on a fresh planner, where its limits pass
-abbrev pub PairDemand3 : Limits → (a b : Block) → Answered → (lent left : List ℕ) → Type 0
-PairDemand3 l a b r lent left =
+-- demand 3 of these on a fresh planner, where its limits and loaded torque steps pass
+abbrev pub PairDemand3 : Limits → (loaded : List ℕ) (a b : Block) → Answered → (lent left : List ℕ) → Type 0
+PairDemand3 l loaded a b r lent left =
     checkedMeans (r .made) ≡ 0
-    → Demand3 (builtIn l) (pairCalls a b) (addMeans (r .first) ∷ addMeans (r .second) ∷ takeMeans (r .third) ∷ []) (r .told) lent (showMeans (r .shown)) left
+    → Demand3 (machineOf l loaded) (pairCalls a b) (addMeans (r .first) ∷ addMeans (r .second) ∷ takeMeans (r .third) ∷ []) (r .told) lent (showMeans (r .shown)) left
 
 -- the ramp of a block of the right-angle pair
 pub record Ramps (r : Ramp) (up down : ℕ) : Type 0 where

@@ -7,7 +7,7 @@ ghost use lib.ListN.{length};
 ghost use Rattle.tape.specs.Answers.{tapeRefusal};
 ghost use Rattle.machine.specs.Labels.{plainBlock};
 ghost use Rattle.machine.specs.Lists.{limitsFrom};
-ghost use Rattle.machine.specs.Numbers.{builtIn};
+ghost use Rattle.machine.specs.Torque.{machineOf, stepsRefusal};
 ghost use Rattle.tape.specs.Tape.{recordsIn};
 ghost use Rattle.tapeplan.specs.Planned.{TapeDemand3};
 ghost use Rattle.fullerecru.specs.Planners as seen;
@@ -31,13 +31,14 @@ use tapeplan::whole::plan_tape;
 pub fn in_memory(
     memory: &mut [u64; NUMBERS],
     l: Limits,
+    steps: &[u8],
     a: Block,
     b: Block,
     list: &mut [u64],
 ) -> Answered
-    ensures { λ r. ⌜ PairDemand3 l a b r (now (list .entry)) (now (list .exit)) ⌝ }
+    ensures { λ r. ⌜ PairDemand3 l (now (steps .entry)) a b r (now (list .entry)) (now (list .exit)) ⌝ }
 {
-    let made = planner::fresh(memory, l);
+    let made = planner::fresh(memory, l, steps);
     let first = planner::add(memory, a);
     let second = planner::add(memory, b);
     let third = planner::take(memory);
@@ -54,10 +55,10 @@ pub fn in_memory(
 }
 
 // By value.
-pub fn by_value(l: Limits, a: Block, b: Block, list: &mut [u64]) -> Answered
-    ensures { λ r. ⌜ PairDemand3 l a b r (now (list .entry)) (now (list .exit)) ⌝ }
+pub fn by_value(l: Limits, steps: &[u8], a: Block, b: Block, list: &mut [u64]) -> Answered
+    ensures { λ r. ⌜ PairDemand3 l (now (steps .entry)) a b r (now (list .entry)) (now (list .exit)) ⌝ }
 {
-    let fresh = Planner::fresh(l);
+    let fresh = Planner::fresh(l, steps);
     let planner = fresh.planner;
     let one = planner.add(a);
     let held = one.planner;
@@ -85,15 +86,16 @@ pub fn by_value(l: Limits, a: Block, b: Block, list: &mut [u64]) -> Answered
 pub fn for_c(
     memory: &mut [u64; NUMBERS],
     limits: &[u64; 9],
+    steps: &[u8],
     x: i64,
     feed: u64,
     moves: &mut [i64; 3],
     numbers: &mut [u64; 11],
     list: &mut [u64],
 ) -> Returned
-    ensures { λ r. ⌜ (r .made ≡ 0 → ExportedDemand3 (builtIn (limitsFrom (now (limits .entry)))) (pairCalls (plainBlock x x x feed 0 0) (plainBlock x x x feed 0 1)) (seen.added (r .first) ∷ seen.added (r .second) ∷ seen.taken (r .third) (now (moves .entry)) (now (moves .exit)) (now (numbers .entry)) (now (numbers .exit)) ∷ []) (r .told) (now (list .entry)) (r .shown) (now (list .exit))) ⌝ }
+    ensures { λ r. ⌜ (r .made ≡ 0 → ExportedDemand3 (machineOf (limitsFrom (now (limits .entry))) (now (steps .entry))) (pairCalls (plainBlock x x x feed 0 0) (plainBlock x x x feed 0 1)) (seen.added (r .first) ∷ seen.added (r .second) ∷ seen.taken (r .third) (now (moves .entry)) (now (moves .exit)) (now (numbers .entry)) (now (numbers .exit)) ∷ []) (r .told) (now (list .entry)) (r .shown) (now (list .exit))) ⌝ }
 {
-    let made = fullerecru_fresh(memory, limits);
+    let made = fullerecru_fresh(memory, limits, steps);
     let first = fullerecru_add(memory, x, x, x, feed, 0, 0);
     let second = fullerecru_add(memory, x, x, x, feed, 0, 1);
     let third = fullerecru_take(memory, moves, numbers);
@@ -109,9 +111,9 @@ pub fn for_c(
     }
 }
 
-// Of a tape that is accepted, in a list one longer than its blocks.
-pub fn of_tape(tape: &[u8], list: &mut [u64]) -> TapePlanned
-    ensures { λ r. ⌜ (tapeRefusal (now (tape .entry)) ≡ 0 → length (now (list .entry)) ≡ recordsIn (now (tape .entry)) + 1 → TapeDemand3 (now (tape .entry)) (now (list .exit)) r) ⌝ }
+// Of a tape that is accepted, with steps that are, in a list one longer than its blocks.
+pub fn of_tape(tape: &[u8], steps: &[u8], list: &mut [u64]) -> TapePlanned
+    ensures { λ r. ⌜ (tapeRefusal (now (tape .entry)) ≡ 0 → stepsRefusal (now (steps .entry)) ≡ 0 → length (now (list .entry)) ≡ recordsIn (now (tape .entry)) + 1 → TapeDemand3 (now (tape .entry)) (now (steps .entry)) (now (list .exit)) r) ⌝ }
 {
-    plan_tape(tape, list)
+    plan_tape(tape, steps, list)
 }

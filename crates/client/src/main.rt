@@ -70,7 +70,7 @@ fn expect_given(g: Given, mark: u64, entry: u64, exit: u64, up: u64, down: u64)
 
 // Two blocks straight on: the plan is 0, 400,000,000, 0.
 fn two_blocks() {
-    let made = Planner::fresh(limits_m());
+    let made = Planner::fresh(limits_m(), b"");
     let fresh = made.planner;
     let one = fresh.add(block(1_000, 0, 0));
     let held = one.planner;
@@ -85,7 +85,7 @@ fn two_blocks() {
 
 // The right-angle pair, marks 7 and 8: each block is given out with its speeds and its ramp.
 fn right_angle() {
-    let made = Planner::fresh(limits_m());
+    let made = Planner::fresh(limits_m(), b"");
     let fresh = made.planner;
     let one = fresh.add(block(1_000, 0, 7));
     let held = one.planner;
@@ -108,7 +108,7 @@ fn right_angle() {
 
 // A block that does not move is refused, and the number told stays as it was.
 fn refused_still() {
-    let made = Planner::fresh(limits_m());
+    let made = Planner::fresh(limits_m(), b"");
     let fresh = made.planner;
     let one = fresh.add(block(1_000, 0, 0));
     let held = one.planner;
@@ -135,7 +135,7 @@ fn was_refused(memory: &mut [u64; NUMBERS], b: Block) -> bool
 
 // A list as long as the blocks is one too short: 11, and it holds what it held.
 fn short_list() {
-    let made = Planner::fresh(limits_m());
+    let made = Planner::fresh(limits_m(), b"");
     let fresh = made.planner;
     let one = fresh.add(block(1_000, 0, 0));
     let held = one.planner;
@@ -149,16 +149,19 @@ fn short_list() {
 
 // The calls of `demands`, made once each; what they promise is their contracts.
 fn demanded(memory: &mut [u64; NUMBERS]) {
+    let steps = [100u8, 90, 80, 70, 60, 50, 40, 30];
     let mut list = [7u64; 2];
     demands::in_memory(
         memory,
         limits_m(),
+        &steps,
         block(1_000, 0, 7),
         block(0, 1_000, 8),
         &mut list,
     );
     demands::by_value(
         limits_m(),
+        &steps,
         block(1_000, 0, 7),
         block(0, 1_000, 8),
         &mut list,
@@ -179,13 +182,14 @@ fn demanded(memory: &mut [u64; NUMBERS]) {
     demands::for_c(
         memory,
         &limits,
+        &steps,
         1_000,
         20_000,
         &mut moves,
         &mut numbers,
         &mut list,
     );
-    demands::of_tape(b"", &mut list);
+    demands::of_tape(b"", &steps, &mut list);
 }
 
 fn main() {

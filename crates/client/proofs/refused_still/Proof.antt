@@ -14,7 +14,7 @@ said : (c : tie.After-add2) → addMeans (c .add2 .result .answer) ≡ lineAnswe
 said c =
     let one = c .before .before .before in
     let made = one .before .before .before in
-    let held = held-one ahead still (made .before .limits-m .ensures) (one .before .block .ensures) (made .fresh .ensures) (one .add .ensures) in
+    let held = held-one ahead still (made .before .before .limits-m .ensures) (one .before .block .ensures) (made .fresh .ensures) (one .add .ensures) in
     rw (c .before .block2 .ensures) at (c .add2 .ensures .line (lineOfOne ahead) held) .0
 
 expect-requires : tie.Need-expect-requires
@@ -30,9 +30,9 @@ expect-requires-3 c κs =
     let two = c .before .before .before in
     let one = two .before .before .before in
     let made = one .before .before .before in
-    let held = held-one ahead still (made .before .limits-m .ensures) (one .before .block .ensures) (made .fresh .ensures) (one .add .ensures) in
+    let held = held-one ahead still (made .before .before .limits-m .ensures) (one .before .block .ensures) (made .fresh .ensures) (one .add .ensures) in
     let left = rw (two .before .block2 .ensures) at (two .add2 .ensures .line (lineOfOne ahead) held) in
     eq-eqb _ _ (c .told .ensures .line (lineAfter (lineOfOne ahead) (add still)) (left .1) ∙ worked .stays)
 
 pub refused-still-spec : {M : Type 1} → statement M
-refused-still-spec = tie.close (tie.spec (λ c κs. search needs) (λ c κs. search needs) (λ c κs. search needs) (λ c κs. search needs) (λ c κs. search needs) (λ c κs. search needs) (λ c. search needs) expect-requires (λ c. search needs) (λ c κs. search needs) expect-requires-2 (λ c κs. search needs) expect-requires-3 (λ c. search needs))
+refused-still-spec = tie.close (tie.spec (λ c κs. search needs) (λ c. search needs) (λ c κs. search needs) (λ c κs. search needs) (λ c κs. search needs) (λ c κs. search needs) (λ c κs. search needs) (λ c. search needs) expect-requires (λ c. search needs) (λ c κs. search needs) expect-requires-2 (λ c κs. search needs) expect-requires-3 (λ c. search needs))

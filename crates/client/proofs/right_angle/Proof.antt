@@ -17,7 +17,7 @@ said c =
     let two = t .before .before in
     let one = two .before .before .before in
     let made = one .before .before .before in
-    let held = held-two east north (made .before .limits-m .ensures) (one .before .block .ensures) (two .before .block2 .ensures) (made .fresh .ensures) (one .add .ensures) (two .add2 .ensures) in
+    let held = held-two east north (made .before .before .limits-m .ensures) (one .before .block .ensures) (two .before .block2 .ensures) (made .fresh .ensures) (one .add .ensures) (two .add2 .ensures) in
     let first = t .take .ensures .line (lineOfTwo east north) held in
     (first .0, c .take2 .ensures .line (lineAfter (lineOfTwo east north) take) (first .1) .0)
 
@@ -38,4 +38,4 @@ expect-requires-2 : tie.Need-expect-requires-2
 expect-requires-2 c κs = absurd (second-given _ (sym (ap takeMeans (c .enum-told2 .given .1)) ∙ said (c .before .before .before) .1))
 
 pub right-angle-spec : {M : Type 1} → statement M
-right-angle-spec = tie.close (tie.spec (λ c κs. search needs) (λ c κs. search needs) (λ c κs. search needs) (λ c κs. search needs) (λ c κs. search needs) (λ c κs. search needs) (λ c κs. search needs) (λ c κs. search needs) (λ c. search needs) expect-given-requires (λ c. search needs) expect-requires (λ c. search needs) expect-given-requires-2 (λ c. search needs) expect-requires-2 (λ c. search needs) (λ c. search needs))
+right-angle-spec = tie.close (tie.spec (λ c κs. search needs) (λ c. search needs) (λ c κs. search needs) (λ c κs. search needs) (λ c κs. search needs) (λ c κs. search needs) (λ c κs. search needs) (λ c κs. search needs) (λ c κs. search needs) (λ c. search needs) expect-given-requires (λ c. search needs) expect-requires (λ c. search needs) expect-given-requires-2 (λ c. search needs) expect-requires-2 (λ c. search needs) (λ c. search needs))

@@ -21,7 +21,7 @@ module _ (c : tie.After-shown) where
   -- what it answers and leaves
   short : (showMeans (c .shown .result) ≡ refused 11) × (c .shown .last .1 .0 ≡ 7 ∷ [])
   short =
-      short-shown (held-one ahead still (made .before .limits-m .ensures) (one .before .block .ensures) (made .fresh .ensures) (one .add .ensures))
+      short-shown (held-one ahead still (made .before .before .limits-m .ensures) (one .before .block .ensures) (made .fresh .ensures) (one .add .ensures))
       (c .shown .ensures)
 
 expect-requires : tie.Need-expect-requires
@@ -36,4 +36,4 @@ expect-requires-3 : tie.Need-expect-requires-3
 expect-requires-3 c κs = eq-eqb _ _ (ap (λ (l : List ℕ). getD l 0 0) (short (c .before .before) .1))
 
 pub short-list-spec : {M : Type 1} → statement M
-short-list-spec = tie.close (tie.spec (λ c κs. search needs) (λ c κs. search needs) (λ c κs. search needs) (λ c κs. search needs) (λ c. search needs) (λ c κs. search needs) (λ c. search needs) expect-requires (λ c. search needs) (λ c κs. search needs) expect-requires-2 (λ c. search needs) expect-requires-3 (λ c. search needs))
+short-list-spec = tie.close (tie.spec (λ c κs. search needs) (λ c. search needs) (λ c κs. search needs) (λ c κs. search needs) (λ c κs. search needs) (λ c. search needs) (λ c κs. search needs) (λ c. search needs) expect-requires (λ c. search needs) (λ c κs. search needs) expect-requires-2 (λ c. search needs) expect-requires-3 (λ c. search needs))

@@ -20,7 +20,7 @@ listed c =
     let one = two .before .before .before in
     let made = one .before .before .before in
     c .shown .ensures .line (lineOfTwo ahead ahead)
-    (held-two ahead ahead (made .before .limits-m .ensures) (one .before .block .ensures) (two .before .block2 .ensures) (made .fresh .ensures) (one .add .ensures) (two .add2 .ensures))
+    (held-two ahead ahead (made .before .before .limits-m .ensures) (one .before .block .ensures) (two .before .block2 .ensures) (made .fresh .ensures) (one .add .ensures) (two .add2 .ensures))
     .fits refl .1
     ∙ worked .straight
 
@@ -34,4 +34,4 @@ expect-requires-3 : tie.Need-expect-requires-3
 expect-requires-3 c κs = eq-eqb _ _ (ap (λ (l : List ℕ). getD l 2 0) (listed (c .before .before .before)))
 
 pub two-blocks-spec : {M : Type 1} → statement M
-two-blocks-spec = tie.close (tie.spec (λ c κs. search needs) (λ c κs. search needs) (λ c κs. search needs) (λ c κs. search needs) (λ c κs. search needs) (λ c κs. search needs) (λ c. search needs) (λ c κs. search needs) (λ c. search needs) expect-requires (λ c. search needs) expect-requires-2 (λ c. search needs) expect-requires-3 (λ c. search needs))
+two-blocks-spec = tie.close (tie.spec (λ c κs. search needs) (λ c. search needs) (λ c κs. search needs) (λ c κs. search needs) (λ c κs. search needs) (λ c κs. search needs) (λ c κs. search needs) (λ c. search needs) (λ c κs. search needs) (λ c. search needs) expect-requires (λ c. search needs) expect-requires-2 (λ c. search needs) expect-requires-3 (λ c. search needs))

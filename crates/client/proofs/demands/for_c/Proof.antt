@@ -14,7 +14,7 @@ returns c = λ passed.
     let b = k .before .before .before .before in
     let a = b .before .before in
     let f = a .before .before in
-    let start = f .before .before .before in
+    let start = f .before .before .before .before in
     let same = read-back (start .fits .x) in
     exported-demand3 (f .fullerecru-fresh .ensures) passed
     (add-next (rw same at (a .fullerecru-add .ensures)) (add-next (rw same at (b .fullerecru-add2 .ensures)) (take-next (k .fullerecru-take .ensures) none)))

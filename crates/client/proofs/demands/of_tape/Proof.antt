@@ -5,7 +5,7 @@ use Rattle.client.proofs.demands.of_tape.Statement.{statement}
 use Rattle.client.proofs.demands.of_tape.Tie as tie
 
 returns : tie.Need-returns
-returns c = λ passed fits. tape-demand3 (c .before .before .plan-tape .ensures) passed fits
+returns c = λ passed steps fits. tape-demand3 (c .before .before .plan-tape .ensures) passed steps fits
 
 pub of-tape-spec : {M : Type 1} → statement M
 of-tape-spec = tie.close (tie.spec (λ c κs. search needs) (λ c. search needs) returns)
