@@ -109,23 +109,23 @@ table =
     -- Q-3: these are accepted, and so are none and the built-in ones; refused by 14 are seven and nine, a 0, a 101, and a rise at the second, the
     -- fifth and the last step; bad limits come first
     ∷ (
-      map stepsRefusal ([] ∷ replicate 8 100 ∷ replicate 8 1 ∷ (100 ∷ 90 ∷ 80 ∷ 70 ∷ 60 ∷ 50 ∷ 40 ∷ 30 ∷ []) ∷ (100 ∷ 100 ∷ 90 ∷ 80 ∷ 70 ∷ 60 ∷ 50 ∷ 40 ∷ []) ∷ [])
-      gives replicate 5 0
+    map stepsRefusal ([] ∷ replicate 8 100 ∷ replicate 8 1 ∷ (100 ∷ 90 ∷ 80 ∷ 70 ∷ 60 ∷ 50 ∷ 40 ∷ 30 ∷ []) ∷ (100 ∷ 100 ∷ 90 ∷ 80 ∷ 70 ∷ 60 ∷ 50 ∷ 40 ∷ []) ∷ [])
+    gives replicate 5 0
     )
     ∷ (
-      map stepsRefusal (
-        replicate 7 1
-        ∷ replicate 9 1
-        ∷ (0 ∷ replicate 7 1)
-        ∷ (replicate 7 1 ++ 0 ∷ [])
-        ∷ replicate 8 101
-        ∷ (101 ∷ replicate 7 100)
-        ∷ (90 ∷ 91 ∷ replicate 6 1)
-        ∷ (replicate 4 50 ++ 51 ∷ replicate 3 1)
-        ∷ (replicate 7 1 ++ 2 ∷ [])
-        ∷ []
-      )
-      gives replicate 9 14
+    map stepsRefusal (
+    replicate 7 1
+    ∷ replicate 9 1
+    ∷ (0 ∷ replicate 7 1)
+    ∷ (replicate 7 1 ++ 0 ∷ [])
+    ∷ replicate 8 101
+    ∷ (101 ∷ replicate 7 100)
+    ∷ (90 ∷ 91 ∷ replicate 6 1)
+    ∷ (replicate 4 50 ++ 51 ∷ replicate 3 1)
+    ∷ (replicate 7 1 ++ 2 ∷ [])
+    ∷ []
+    )
+    gives replicate 9 14
     )
     ∷ (machineRefusal (limitsWith 0 2_000) (0 ∷ []) ∷ machineRefusal limitsM (0 ∷ []) ∷ machineRefusal limitsM [] ∷ [] gives 1 ∷ 14 ∷ 0 ∷ [])
     -- Add 64 is taken, 65 is refused by 7; after one take it is accepted

@@ -2,10 +2,14 @@
 //
 // A case is a line of 21 numbers with one space between: the limits (acceleration X, Y, Z, speed X,
 // Y, Z, J, E, T), then two blocks (X, Y, Z, feed, radius, mark). They are words of 64 bits in two's
-// complement, so that -1 is also the greatest unsigned number. The answer has the numbers of the
+// complement, so that -1 is also the greatest unsigned number. Behind them stand the torque steps that
+// are loaded, none to nine numbers of 0 to 255. The answer has the numbers of the
 // first block (length, acceleration, reach, cap), those of the second, and the junction cap between
 // them, each of the three with its refusal in its place, and ` | ` between.
+ghost use mathlib.Core.Path.{_≡_};
 ghost use Prim.Native.Nat.{_<_};
+ghost use lib.ListN.{length};
+ghost use Rattle.io.specs.Counts.{Counts};
 use display::Refusal;
 use display::refusal_number;
 use fields::signed_word;
@@ -21,8 +25,12 @@ use machine::blocks::plain_block;
 use machine::lists::limits_from;
 use std::num::wrapping_sub_u64;
 
-// Numbers of a case.
-const WORDS: usize = 21;
+// Numbers of a case before its torque steps, and of steps at most.
+const FIELDS: usize = 21;
+
+const STEPS: usize = 9;
+
+const WORDS: usize = FIELDS + STEPS;
 
 // What has been read of a case, and how many bytes of answers wait to be written.
 struct State {
@@ -80,6 +88,32 @@ fn with_word(s: State) -> State {
     } else {
         s
     }
+}
+
+// How many steps a case of so many words has, of those in a list.
+fn steps_in(count: usize, steps: &[u8]) -> usize
+    ensures { λ r. ⌜ Counts r (now (steps .entry)) ⌝ }
+{
+    if count < FIELDS {
+        return 0;
+    }
+    if steps.len() < count - FIELDS {
+        return steps.len();
+    }
+    count - FIELDS
+}
+
+// The steps of a case, and zeros behind them.
+fn steps_of(w: [u64; WORDS]) -> [u8; STEPS]
+    ensures { λ r. ⌜ 9 ≡ length r ⌝ }
+{
+    let mut steps = [0u8; STEPS];
+    let mut k = 0;
+    while k < STEPS {
+        steps[k] = (w[FIELDS + k] % 256) as u8;
+        k += 1;
+    }
+    steps
 }
 
 // The block whose six words begin at `at`.
@@ -146,14 +180,17 @@ fn put_cap_answer(out: &mut [u8], at: usize, answer: CapAnswer) -> usize {
     }
 }
 
-// The answer of a whole case.
-fn put_case(out: &mut [u8], at: usize, w: [u64; WORDS]) -> usize {
+// The answer of a whole case of so many words.
+fn put_case(out: &mut [u8], at: usize, w: [u64; WORDS], count: usize) -> usize {
     let l = limits_from(&w);
+    let all = steps_of(w);
+    let n = steps_in(count, &all);
+    let steps = &all[..n];
     let a = block_at(w, 9);
     let b = block_at(w, 15);
-    let first = put_numbers_answer(out, at, numbers_answer(l, a));
+    let first = put_numbers_answer(out, at, numbers_answer(l, steps, a));
     let parted = put(out, first, b" | ");
-    let second = put_numbers_answer(out, parted, numbers_answer(l, b));
+    let second = put_numbers_answer(out, parted, numbers_answer(l, steps, b));
     let again = put(out, second, b" | ");
     let third = put_cap_answer(out, again, junction_answer(l, a, b));
     put(out, third, b"\n")
@@ -174,7 +211,7 @@ fn eat(s: State, byte: u8, out: &mut [u8]) -> State {
     let t = with_word(s);
     if byte == b'\n' {
         let words = t.words;
-        return fresh(put_case(out, t.used, words));
+        return fresh(put_case(out, t.used, words, t.count));
     }
     t
 }

@@ -63,8 +63,7 @@ survey-requires : tie.Need-survey-requires
 survey-requires c κs =
     let k = c .before .before .before in
     let s = begin k .args .s .now in
-    let head = head-passed s (begin k .pre .0) in
-    (
+    let head = head-passed s (begin k .pre .0) in (
       limits-below (k .before .m .given .0 .0 .limits) (ap (λ (m : Machine). limitsRefusal (m .limits)) (machine-is k) ∙ limits-faultless s (head .limits) .1),
       head-records s head,
       head-records s head,
