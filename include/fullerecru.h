@@ -46,6 +46,8 @@ enum {
     FULLERECRU_PLACES = 64,
     /* Numbers of a machine's limits. */
     FULLERECRU_LIMITS = 9,
+    /* Bytes of loaded torque steps. */
+    FULLERECRU_STEPS = 8,
     /* Moves of a block. */
     FULLERECRU_MOVES = 3,
     /* Numbers of a block given out, beside its moves. */
@@ -92,8 +94,18 @@ enum fullerecru_refusal {
     FULLERECRU_REFUSED_MANY = 10,
     /* lent list of speeds not exactly one longer than the blocks; a replay's list not of its
      * size */
-    FULLERECRU_REFUSED_LIST = 11
+    FULLERECRU_REFUSED_LIST = 11,
+    /* loaded torque steps not of eight bytes, out of range or rising */
+    FULLERECRU_REFUSED_STEPS = 14
 };
+
+/* Torque steps, where a function takes a pointer steps and their count: the percent of the
+ * acceleration that the motors give at block speeds up to 125,000, 250,000, ... 1,000,000 µm/s, a
+ * byte for each of the eight steps. They are accepted if each is 1 to 100 and none exceeds the one
+ * before it. A count of 0 loads none, and the built-in steps serve: 100, 100, 90, 80, 70, 60, 50, 40.
+ * FULLERECRU_BUILT_IN stands for pointer and count of none, as in
+ * fullerecru_fresh(memory, limits, FULLERECRU_BUILT_IN). The bytes are read during the call only. */
+#define FULLERECRU_BUILT_IN (const uint8_t *)"", (size_t)0
 
 /* The planner: 64 places in memory of the caller, who keeps its 781 numbers from call to call.
  * These functions alone write them. */
@@ -102,10 +114,12 @@ enum fullerecru_refusal {
  *
  * limits: acceleration of X, Y, Z, 1 to 20,000,000 µm/s²; speed of X, Y, Z, 1 to 1,000,000 µm/s;
  * corner jump, 1 to 1,000,000 µm/s; chord tolerance, 1 to 1,000 µm; tick, 100 to 10,000 µs.
+ * steps: the torque steps, which stay the planner's until it is made fresh again.
  *
- * Refuses by 1. Accepted, it writes the memory. */
+ * Refuses by 1, then 14. Accepted, it writes the memory. */
 uint64_t fullerecru_fresh(uint64_t memory[FULLERECRU_NUMBERS],
-                          const uint64_t limits[FULLERECRU_LIMITS]);
+                          const uint64_t limits[FULLERECRU_LIMITS], const uint8_t *steps,
+                          size_t count);
 
 /* Adds a block behind those held.
  *
@@ -181,29 +195,31 @@ uint64_t fullerecru_write_record(int64_t x, int64_t y, int64_t z, uint64_t feed,
                                  uint64_t mark, uint8_t *bytes, size_t count);
 
 /* Plans a whole tape of 0 to 2,048 blocks from rest to rest: the squared speed, (µm/s)², at each
- * junction. junctions, the size of list, must be the number of blocks + 1.
+ * junction. steps: the torque steps. junctions, the size of list, must be the number of blocks + 1.
  *
- * Refuses by 10, 9, 1, then by the first record at fault (2, 3, 4, 5), then by 11. place[0] is
+ * Refuses by 10, 9, 1, 14, then by the first record at fault (2, 3, 4, 5), then by 11. place[0] is
  * written by every call: the place of the record at fault, counted from 1, else 0. Accepted, it
  * also writes list. */
-uint64_t fullerecru_plan_tape(const uint8_t *tape, size_t count, uint64_t *list, size_t junctions,
+uint64_t fullerecru_plan_tape(const uint8_t *tape, size_t count, const uint8_t *steps,
+                              size_t steps_count, uint64_t *list, size_t junctions,
                               uint64_t place[1]);
 
 /* Runs a trace, a list of calls, on a planner of its own. The trace is 24 bytes of limits as on
  * tape, then 28 bytes for each call: seven words of 32 bits, most significant byte first: kind (0
  * is a take, any other an add), moves X, Y, Z in two's complement, feed, radius, mark. A take's
- * other words play no part. numbers, the size of answers, must be 15 for each call; junctions,
+ * other words play no part. steps: the torque steps. numbers, the size of answers, must be 15 for each call; junctions,
  * the size of plan, must be 65.
  *
  * Each call gets a row of 15 in answers: the number on the display; then, of a block given out,
  * moves X, Y, Z in two's complement of 32 bits, feed, radius, mark, length, acceleration, entry,
  * exit, peak, and the lengths run speeding up, at the peak and braking; else 14 zeros.
  *
- * Refuses by 9, 1, 11 in that order. Accepted, it writes answers, told[0] (the number of blocks
+ * Refuses by 9, 1, 14, 11 in that order. Accepted, it writes answers, told[0] (the number of blocks
  * held at the end), and the first told[0] + 1 numbers of plan: the plan of the blocks still
  * held. */
-uint64_t fullerecru_replay(const uint8_t *trace, size_t count, uint64_t *answers, size_t numbers,
-                           uint64_t *plan, size_t junctions, uint64_t told[1]);
+uint64_t fullerecru_replay(const uint8_t *trace, size_t count, const uint8_t *steps,
+                           size_t steps_count, uint64_t *answers, size_t numbers, uint64_t *plan,
+                           size_t junctions, uint64_t told[1]);
 
 #ifdef __cplusplus
 }

@@ -1,7 +1,7 @@
 /* Feeds a planner as a control does: holds a few blocks ahead, takes the first one when it needs
  * it, and hands its ramp to the servo loop, here one line of print. Then writes a tape of two
- * blocks, reads it back and plans it, and replays a trace of four calls. Every function of the
- * header is called.
+ * blocks, reads it back and plans it, and replays a trace of four calls with motors that have torque
+ * steps of their own. Every function of the header is called.
  *
  *     cc -std=c99 -Iinclude examples/c/feed.c target/staticlib/libfullerecru.a -o target/feed
  */
@@ -19,6 +19,9 @@ enum { AHEAD = 5 };
 static const uint64_t MACHINE[FULLERECRU_LIMITS] = {
     200000, 200000, 200000, 1000000, 1000000, 1000000, 2000, 1, 2000,
 };
+
+/* Torque steps of other motors: percent of the acceleration, a byte for each step of 125,000 µm/s. */
+static const uint8_t MOTORS[FULLERECRU_STEPS] = {50, 50, 45, 40, 35, 30, 25, 20};
 
 /* A row over a mould and a step sideways: moves X, Y, Z, and radius of the curve, µm. */
 static const int64_t ROW[][4] = {
@@ -73,7 +76,7 @@ static void print_plan(const uint64_t memory[FULLERECRU_NUMBERS])
 static void run_row(void)
 {
     uint64_t memory[FULLERECRU_NUMBERS];
-    if (fullerecru_fresh(memory, MACHINE) != FULLERECRU_ACCEPTED) {
+    if (fullerecru_fresh(memory, MACHINE, FULLERECRU_BUILT_IN) != FULLERECRU_ACCEPTED) {
         return;
     }
     for (size_t k = 0; k < BLOCKS; k++) {
@@ -137,7 +140,8 @@ static void plan_tape(const uint8_t *tape, size_t count)
 {
     uint64_t plan[FULLERECRU_MOST_BLOCKS + 1], place[1];
     size_t blocks = (count - FULLERECRU_LIMITS_BYTES) / FULLERECRU_RECORD_BYTES;
-    uint64_t refused = fullerecru_plan_tape(tape, count, plan, blocks + 1, place);
+    uint64_t refused =
+        fullerecru_plan_tape(tape, count, FULLERECRU_BUILT_IN, plan, blocks + 1, place);
     if (refused != FULLERECRU_ACCEPTED) {
         printf("tape refused by %" PRIu64 " at %" PRIu64 "\n", refused, place[0]);
         return;
@@ -182,7 +186,7 @@ static void write_calls(uint8_t bytes[CALLS * FULLERECRU_CALL_BYTES])
     }
 }
 
-/* Replays the trace and prints the row that answers each call (its numbers stand in the order that
+/* Replays the trace with the other motors' steps and prints the row that answers each call (its numbers stand in the order that
  * the header gives), the number held and the plan. */
 static void run_trace(void)
 {
@@ -190,8 +194,8 @@ static void run_trace(void)
     uint64_t answers[CALLS * FULLERECRU_ROW], plan[FULLERECRU_PLAN], told[1];
     uint64_t refused = fullerecru_write_limits(MACHINE, trace, sizeof trace);
     write_calls(trace + FULLERECRU_LIMITS_BYTES);
-    refused |= fullerecru_replay(trace, sizeof trace, answers, CALLS * FULLERECRU_ROW, plan,
-                                 FULLERECRU_PLAN, told);
+    refused |= fullerecru_replay(trace, sizeof trace, MOTORS, sizeof MOTORS, answers,
+                                 CALLS * FULLERECRU_ROW, plan, FULLERECRU_PLAN, told);
     if (refused != FULLERECRU_ACCEPTED) {
         return;
     }
@@ -200,6 +204,9 @@ static void run_trace(void)
     }
     printf("held %" PRIu64 ", ", told[0]);
     print_list("plan", plan, (size_t)told[0] + 1);
+    refused = fullerecru_replay(trace, sizeof trace, MOTORS, sizeof MOTORS - 1, answers,
+                                CALLS * FULLERECRU_ROW, plan, FULLERECRU_PLAN, told);
+    printf("a torque step too few: refused by %" PRIu64 "\n", refused);
 }
 
 int main(void)

@@ -6,7 +6,12 @@
 const NUMBERS: usize = 781;
 
 extern "C" {
-    fn fullerecru_fresh(memory: *mut u64, limits: *const u64) -> u64;
+    fn fullerecru_fresh(
+        memory: *mut u64,
+        limits: *const u64,
+        steps: *const u8,
+        count: usize,
+    ) -> u64;
     fn fullerecru_add(
         memory: *mut u64,
         x: i64,
@@ -35,10 +40,13 @@ fn accepted<T>(number: u64, answer: T) -> Result<T, u64> {
 
 // Each call lends arrays of the sizes that include/fullerecru.h names.
 impl Planner {
-    /// Accelerations, µm/s², speeds, µm/s, corner jump, µm/s, chord tolerance, µm, and tick, µs.
-    fn fresh(limits: &[u64; 9]) -> Result<Planner, u64> {
+    /// Accelerations, µm/s², speeds, µm/s, corner jump, µm/s, chord tolerance, µm, and tick, µs; and the
+    /// motors' torque steps, eight percentages, or none for the built-in ones.
+    fn fresh(limits: &[u64; 9], steps: &[u8]) -> Result<Planner, u64> {
         let mut memory = [0; NUMBERS];
-        let number = unsafe { fullerecru_fresh(memory.as_mut_ptr(), limits.as_ptr()) };
+        let lent = memory.as_mut_ptr();
+        let number =
+            unsafe { fullerecru_fresh(lent, limits.as_ptr(), steps.as_ptr(), steps.len()) };
         accepted(number, Planner(memory))
     }
 
@@ -70,7 +78,7 @@ impl Planner {
 fn main() -> Result<(), u64> {
     let a = 200_000;
     let v = 1_000_000;
-    let mut planner = Planner::fresh(&[a, a, a, v, v, v, 2_000, 1, 2_000])?;
+    let mut planner = Planner::fresh(&[a, a, a, v, v, v, 2_000, 1, 2_000], &[])?;
     planner.add([1_000, 0, 0], 20_000, 0, 7)?;
     planner.add([0, 1_000, 0], 20_000, 0, 8)?;
     println!("plan {:?}", planner.plan()?);

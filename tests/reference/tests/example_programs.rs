@@ -22,6 +22,8 @@ const ROW: [[i64; 4]; 9] = [
     [0, 200, 0, 0],
 ];
 const AHEAD: usize = 5;
+/// feed.c's torque steps of other motors, percent.
+const MOTORS: [u8; 8] = [50, 50, 45, 40, 35, 30, 25, 20];
 
 /// A name and numbers, parted by spaces.
 fn list(name: &str, numbers: &[u64]) -> String {
@@ -127,10 +129,11 @@ fn given_numbers(given: &Given) -> [u64; 11] {
     ]
 }
 
-/// feed.c's trace: a take too early, the pair's two adds, and a take.
+/// feed.c's trace with the other motors: a take too early, the pair's two adds,
+/// and a take; then with a step too few.
 fn trace_text() -> String {
     let pair = right_angle();
-    let mut line = Line::fresh(&pair.limits, &[]).unwrap();
+    let mut line = Line::fresh(&pair.limits, &MOTORS).unwrap();
     let mut rows = [[0; 15]; 4];
     rows[0][0] = line.take().unwrap_err().number();
     pair.blocks.iter().for_each(|b| line.add(b).unwrap());
@@ -138,7 +141,8 @@ fn trace_text() -> String {
     rows[3][1..4].copy_from_slice(&given.block.moves.map(|m| m as u32 as u64));
     rows[3][4..].copy_from_slice(&given_numbers(&given));
     let text: String = rows.iter().map(|row| list("answer", row)).collect();
-    text + &held(&line)
+    let refusal = Line::fresh(&pair.limits, &MOTORS[..7]).unwrap_err();
+    text + &held(&line) + &format!("a torque step too few: refused by {}\n", refusal.number())
 }
 
 /// What pair.rs prints: the pair's plan, its blocks, and a take too many.
