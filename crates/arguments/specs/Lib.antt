@@ -1,2 +1,4 @@
--- What a program's arguments ask for, and how a wrong one is told.
+-- What a program's arguments ask for, the lines that tell what is wrong, and the files that arguments name.
+pub mod Files
+pub mod Lines
 pub mod Words

@@ -1,45 +1,80 @@
--- What a program's arguments ask for, and how a wrong one is told, as ASCII bytes.
+-- What the words behind a program's name ask for.
+use mathlib.Core.Logic.{_↔_}
 use mathlib.Core.Path.{_≡_}
-use Prim.Native.Nat.{ℕ}
-use mathlib.Core.Bool.{Bool, true, cond}
-use mathlib.Core.List.{List, _∷_, _++_, []}
-use lib.Dec.{ltb, eqb}
+use Prim.Native.Nat.{ℕ, zero, suc, _+_, _≤_}
+use mathlib.Core.Bool.{Bool, true, false, cond}
+use mathlib.Core.List.{List, _∷_, map, []}
+use lib.Dec.{eqb}
 use Rattle.arguments.specs.declared.Asked.{Asked}
-use Rattle.arguments.specs.declared.Asked.the-variants.{Work, Usage, Wrong}
+use Rattle.arguments.specs.declared.Asked.the-variants.{Work, Usage, Lacks}
+use Rattle.arguments.specs.declared.Asked.the-variants as asked
+use Rattle.arguments.specs.declared.Seen.{Seen}
+use Rattle.arguments.specs.declared.Seen.the-variants.{Right, File}
+use Rattle.arguments.specs.declared.Seen.the-variants as seen
+use Rattle.arguments.specs.declared.Order.{Order}
+use Rattle.arguments.specs.declared.Order.the-variants as order
 
 -- `--help`
 abbrev pub helpWord : List ℕ
 helpWord = 45 ∷ 45 ∷ 104 ∷ 101 ∷ 108 ∷ 112 ∷ []
 
--- r says whether an argument is `--help`
-abbrev pub Helps : List ℕ → Bool → Type 0
-Helps argument r = (r ≡ true → argument ≡ helpWord) × (argument ≡ helpWord → r ≡ true)
+-- `--steps`
+abbrev pub stepsWord : List ℕ
+stepsWord = 45 ∷ 45 ∷ 115 ∷ 116 ∷ 101 ∷ 112 ∷ 115 ∷ []
 
--- what is asked by so many words, the program's own name first, where the first argument is `--help` or is not: no
--- argument asks for the work and `--help` alone for the usage; else the first argument that is not so is wrong
-abbrev pub askedOf : ℕ → Bool → Asked
-askedOf words help = cond (ltb words 2) Work (cond help (cond (eqb words 2) Usage (Wrong 2)) (Wrong 1))
+-- A word is one of the two options, or another.
+pub data Word : Type 0 where
+  help : Word
+  steps : Word
+  other : Word
 
--- how a byte is shown in a line: one of the control characters as `?`
-unfoldable pub shownAs : ℕ → ℕ
-shownAs byte = cond (ltb byte 32) 63 (cond (eqb byte 127) 63 byte)
+-- the kind that a number stands for
+abbrev pub wordOf : ℕ → Word
+wordOf kind = cond (eqb kind 1) help (cond (eqb kind 2) steps other)
 
--- `: unexpected argument '`
-unfoldable pub matter : List ℕ
-matter = 58 ∷ 32 ∷ 117 ∷ 110 ∷ 101 ∷ 120 ∷ 112 ∷ 101 ∷ 99 ∷ 116 ∷ 101 ∷ 100 ∷ 32 ∷ 97 ∷ 114 ∷ 103 ∷ 117 ∷ 109 ∷ 101 ∷ 110 ∷ 116 ∷ 32 ∷ 39 ∷ []
+-- the number of a word's kind: it stands for `--help` where the word is that, for `--steps` where it is that, and else
+-- for another
+pub record Known (word : List ℕ) (kind : ℕ) : Type 0 where
+  pub isHelp : wordOf kind ≡ help ↔ word ≡ helpWord
+  pub isSteps : wordOf kind ≡ steps ↔ word ≡ stepsWord
 
--- `'; it reads standard input, see --help` and a line feed
-unfoldable pub advice : List ℕ
-advice = 39 ∷ 59 ∷ 32 ∷ 105 ∷ 116 ∷ 32 ∷ 114 ∷ 101 ∷ 97 ∷ 100 ∷ 115 ∷ 32 ∷ 115 ∷ 116 ∷ 97 ∷ 110 ∷ 100 ∷ 97 ∷ 114 ∷ 100 ∷ 32 ∷ 105 ∷ 110 ∷ 112 ∷ 117 ∷ 116 ∷ 44 ∷ 32 ∷ 115 ∷ 101 ∷ 101 ∷ 32 ∷ 45 ∷ 45 ∷ 104 ∷ 101 ∷ 108 ∷ 112 ∷ 10 ∷ []
+-- What the words from a place on ask for, where those before it are right: whether `--help` is among these, and the
+-- place of the steps' file, 0 where `--steps` is not. The first wrong word decides.
+unfoldable pub askedFrom : List Word → (place : ℕ) → Bool → (file : ℕ) → Asked
+askedFrom [] place false file = Work file
+askedFrom [] place true file = Usage
+askedFrom (help ∷ words) place false file = askedFrom words (place + 1) true file
+askedFrom (help ∷ words) place true file = asked.Wrong place
+askedFrom (steps ∷ []) place helped zero = Lacks
+askedFrom (steps ∷ name ∷ words) place helped zero = askedFrom words (place + 1 + 1) helped (place + 1)
+askedFrom (steps ∷ words) place helped (suc file) = asked.Wrong place
+askedFrom (other ∷ words) place helped file = asked.Wrong place
 
--- how many bytes these two have
-abbrev pub aroundSize : ℕ
-aroundSize = 62
+-- What the words ask for whose kinds have these numbers.
+abbrev pub askedOf : List ℕ → Asked
+askedOf kinds = askedFrom (map wordOf kinds) 1 false 0
 
--- how many bytes of a program's name are shown at most
-abbrev pub nameSize : ℕ
-nameSize = 64
+-- The same from a place on, by what was seen of the words before it.
+unfoldable pub askedAfter : Seen → (place : ℕ) → List Word → Asked
+askedAfter (Right helped file) place words = askedFrom words place helped file
+askedAfter (File helped) place [] = Lacks
+askedAfter (File helped) place (name ∷ words) = askedFrom words (place + 1) helped place
+askedAfter (seen.Wrong first) place words = asked.Wrong first
 
--- the line that names a wrong argument
-unfoldable pub wrongLine : List ℕ → List ℕ → List ℕ
-wrongLine program argument = program ++ matter ++ argument ++ advice
+-- `after` is seen once a word of this kind stands at a place where an option is expected: whatever words follow, the same is
+-- asked for
+abbrev pub Chosen : (helped : Bool) (file kind place : ℕ) (after : Seen) → Type 0
+Chosen helped file kind place after = (words : List Word) → askedAfter after (place + 1) words ≡ askedFrom (wordOf kind ∷ words) place helped file
+
+-- the same at any place, by what was seen of the words before it
+abbrev pub Follows : (before : Seen) (kind place : ℕ) (after : Seen) → Type 0
+Follows before kind place after = (words : List Word) → askedAfter after (place + 1) words ≡ askedAfter before place (wordOf kind ∷ words)
+
+-- Without further words what was seen asks for this, whatever their place would be.
+abbrev pub Ends : Seen → Asked → Type 0
+Ends before r = (place : ℕ) → r ≡ askedAfter before place []
+
+-- so many bytes as an order says have room in the list that is lent
+abbrev pub Fits : (room : ℕ) → Order → Type 0
+Fits room (order.Work n) = n ≤ room
+Fits room order.Done = Unit {0}

@@ -1,149 +1,106 @@
-// The arguments that a program is started with. The programs know one, `--help`, which writes the usage; any other is told
-// on standard error, and the program does nothing.
-ghost use mathlib.Core.Path.{_≡_};
-ghost use Prim.Native.Nat.{_+_, _≤_, min};
-ghost use mathlib.Core.List.{map};
+// The arguments that a program is started with. The programs know two options, in any order and each at most once: `--help`,
+// which writes the usage, and `--steps FILE`, which names the file of the torque steps. Whatever else is there, and a file
+// that cannot be opened or read, is told in one line on standard error, and the program does nothing.
+pub mod file;
+mod lines;
+mod words;
+
+ghost use Prim.Native.Nat.{_≤_};
 ghost use lib.ListN.{length};
-ghost use Rattle.io.specs.Counts.{Counts};
-ghost use Rattle.text.specs.Store.{Stored};
-ghost use Rattle.arguments.specs.Words.{Helps, aroundSize, askedOf, nameSize, shownAs, wrongLine};
-use libc::STDERR_FILENO;
-use libc::STDOUT_FILENO;
-use text::behind;
-use text::put_bytes;
+ghost use Rattle.arguments.specs.Lines.{nameSize};
+ghost use Rattle.arguments.specs.Words.{Fits};
+use file::read_file;
+use libc::PATH_MAX;
+use lines::NAME;
+use lines::say_failed;
+use lines::say_lacks;
+use lines::say_usage;
+use lines::say_wrong;
+use lines::smaller;
+use words::read_asked;
+use words::read_word;
 
-// Bytes of an argument that are looked at.
-const ARGUMENT: usize = 256;
-// Bytes of a program's name that are shown.
-const NAME: usize = 64;
-// Bytes of the words around them in a line that names an argument, and of the whole line.
-const AROUND: usize = 62;
+// What is left to do for a program.
+pub enum Order {
+    // its work: so many bytes of the steps' file stand at the beginning of the list that was lent, none without the option
+    Work(usize),
+    // nothing: the usage was written, or what is wrong was told
+    Done,
+}
 
-const LINE: usize = NAME + ARGUMENT + AROUND;
-
-// What a program is asked to do.
+// What a program's words ask for.
 enum Asked {
-    // its work
-    Work,
+    // its work, with the file at this place, from 1, for the steps; 0 where none is named
+    Work(usize),
     // to write its usage
     Usage,
-    // nothing that it knows: the argument at this place, from 1, is one that it does not expect there
+    // nothing that it knows: the word at this place, from 1, is one that it does not expect there
+    Wrong(usize),
+    // its work with the steps of a file that is missing behind `--steps`
+    Lacks,
+}
+
+// What was seen of a program's first words.
+enum Seen {
+    // all are right: whether `--help` is among them, and the place of the steps' file, 0 where `--steps` is not
+    Right(bool, usize),
+    // all are right, and the last is `--steps`; whether `--help` is among them
+    File(bool),
+    // the first that is wrong stands at this place
     Wrong(usize),
 }
 
-// Whether an argument is `--help`.
-fn is_help(argument: &[u8]) -> bool
-    ensures { λ r. ⌜ Helps (now (argument .entry)) r ⌝ }
-{
-    check::same(argument, b"--help")
+// Why a file's bytes could not be had.
+pub enum Fault {
+    Unopened,
+    Unread,
 }
 
-// What is asked by so many words, the program's own name first, where the first argument is `--help` or is not.
-fn decide(words: usize, help: bool) -> Asked
-    ensures { λ r. ⌜ r ≡ askedOf words help ⌝ }
-{
-    if words < 2 {
-        return Asked::Work;
-    }
-    if !help {
-        return Asked::Wrong(1);
-    }
-    if words == 2 {
-        return Asked::Usage;
-    }
-    Asked::Wrong(2)
+// What was read of a file.
+pub enum FileRead {
+    // so many bytes: all that there was room for, or all to the end of the file
+    Bytes(usize),
+    Failed(Fault),
 }
 
-// How a byte is shown in a line: a control character, such as a line feed, as a question mark.
-fn shown(byte: u8) -> u8
-    ensures { λ r. ⌜ r ≡ shownAs byte ⌝ }
+// Reads the steps from the file whose name stands at this place, 0 where none is named. Where that fails it is told. The list
+// for the name has one byte more than the longest name that can be opened: what is longer cannot, whatever follows.
+fn read_steps(program: &[u8], place: usize, steps: &mut [u8]) -> Order
+    requires { ⌜ length (now program) ≤ nameSize ⌝ }
+    ensures { λ r. ⌜ Fits (length (now (steps .exit))) r ⌝ }
 {
-    if byte < 32 {
-        return b'?';
+    if place == 0 {
+        return Order::Work(0);
     }
-    if byte == 127 {
-        return b'?';
-    }
-    byte
-}
-
-// Makes a text fit to be shown in a line.
-fn show(text: &mut [u8])
-    ensures { λ _. ⌜ now (text .exit) ≡ map shownAs (now (text .entry)) ⌝ }
-{
-    let mut i: usize = 0;
-    while i < text.len() {
-        text[i] = shown(text[i]);
-        i += 1;
+    let mut name = [0u8; PATH_MAX];
+    let got = read_word(place, &mut name);
+    match read_file(&name[..got], steps) {
+        FileRead::Bytes(n) => Order::Work(n),
+        FileRead::Failed(fault) => {
+            say_failed(program, fault, &mut name[..got]);
+            Order::Done
+        }
     }
 }
 
-// Stores a part of a line, for which there is room.
-fn store(line: &mut [u8], at: usize, part: &[u8]) -> usize
-    requires { ⌜ at + length (now part) ≤ length (now line) ⌝ }
-    ensures { λ r. ⌜ Stored (now (line .entry)) at (now (part .entry)) r (now (line .exit)) ⌝ }
-{
-    behind(put_bytes(line, at, part), at)
-}
-
-// Stores the line that names a wrong argument.
-fn store_wrong(line: &mut [u8], program: &[u8], argument: &[u8]) -> usize
-    requires { ⌜ length (now program) + length (now argument) + aroundSize ≤ length (now line) ⌝ }
-    ensures { λ r. ⌜ Stored (now (line .entry)) 0 (wrongLine (now (program .entry)) (now (argument .entry))) r (now (line .exit)) ⌝ }
-{
-    let named = store(line, 0, program);
-    let told = store(line, named, b": unexpected argument '");
-    let quoted = store(line, told, argument);
-    store(line, quoted, b"'; it reads standard input, see --help\n")
-}
-
-// Reads an argument as it is shown in a line, one that is too long by its beginning. Returns how many bytes it has. Which
-// bytes are read is open, as no contract says what a program is started with.
-fn read_shown(place: usize, argument: &mut [u8]) -> usize
-    ensures { λ r. ⌜ Counts r (now (argument .exit)) ⌝ }
-{
-    let got = os::arg(place, argument);
-    let is_long = os::errno() == libc::ENAMETOOLONG;
-    show(argument);
-    if is_long { argument.len() } else { got }
-}
-
-// How many bytes of a program's name are shown, where it has so many.
-fn name_shown(length: usize) -> usize
-    ensures { λ r. ⌜ r ≡ min length nameSize ⌝ }
-{
-    if length < NAME { length } else { NAME }
-}
-
-// Says which argument is wrong, in one line on standard error.
-fn say_wrong(program: &[u8], place: usize) {
-    let mut argument = [0u8; ARGUMENT];
-    let got = read_shown(place, &mut argument);
-    let named = name_shown(program.len());
-    let mut line = [0u8; LINE];
-    let end = store_wrong(&mut line, &program[..named], &argument[..got]);
-    io::write_all(STDERR_FILENO, &line[..end]);
-}
-
-// Writes the usage to standard output.
-fn say_usage(program: &[u8], usage: &[u8]) {
-    if !io::write_all(STDOUT_FILENO, usage) {
-        io::write_all(STDERR_FILENO, program);
-        io::write_all(STDERR_FILENO, b": standard output did not take the usage\n");
-    }
-}
-
-// Whether a program is asked to do its work, as it is when it is started without arguments. If it is not, what it is asked has
-// been done: the usage is written to standard output, or the first argument that is wrong told on standard error.
+// What is left to do for a program of this name, which knows the options `--help` and `--steps FILE` and nothing else: its
+// work where no option but `--steps` is there, with the bytes of its file at the beginning of the list that is lent, as many
+// as there is room for. Else what it is asked has been done: the usage is written to standard output, or the first word that
+// is wrong, a file that is missing behind `--steps`, or one that could not be opened or read is told on standard error.
 //
-// Open is what the arguments are, so which of the three it is; what is made of them is the promise of `is_help` and `decide`.
-pub fn work_asked(program: &[u8], usage: &[u8]) -> bool {
-    let mut first = [0u8; ARGUMENT];
-    let got = os::arg(1, &mut first);
-    match decide(os::arg_count(), is_help(&first[..got])) {
-        Asked::Work => return true,
-        Asked::Usage => say_usage(program, usage),
-        Asked::Wrong(place) => say_wrong(program, place),
+// Open is what the words are and what the file holds, so which of these it is; that is the system's part. What is made of
+// the words is the promise of `words::kind_of` and `decide`, and what is told that of `lines::store_wrong`, `store_lacks` and
+// `store_failed`. So many bytes as are said to be in the list are in it.
+pub fn read_order(program: &[u8], usage: &[u8], steps: &mut [u8]) -> Order
+    ensures { λ r. ⌜ Fits (length (now (steps .exit))) r ⌝ }
+{
+    let shown = smaller(program.len(), NAME);
+    let name = &program[..shown];
+    match read_asked() {
+        Asked::Work(place) => return read_steps(name, place, steps),
+        Asked::Usage => say_usage(name, usage),
+        Asked::Wrong(place) => say_wrong(name, place),
+        Asked::Lacks => say_lacks(name),
     }
-    false
+    Order::Done
 }

@@ -1,6 +1,7 @@
 // Lists the tape of standard input: document 01's listing, or the one line of its refusal. Where the input cannot be read to
 // its end, or the output does not take the whole text, a line on standard error says so.
-use arguments::work_asked;
+use arguments::Order;
+use arguments::read_order;
 use libc::STDERR_FILENO;
 use libc::STDOUT_FILENO;
 use listing::Listing;
@@ -13,6 +14,8 @@ use tapeplan::sheet::SHEET;
 
 // One byte more than the longest tape: a longer input is refused by 10 whatever follows, so no more of it is read.
 const INPUT: usize = MOST_BYTES + 1;
+// One byte more than good torque steps have: a longer file is refused whatever follows.
+const STEPS: usize = 9;
 
 // Writes a line to standard error.
 fn say_error(line: &[u8]) {
@@ -39,24 +42,28 @@ fn list(tape: &[u8]) {
     }
 }
 
-// Whether a tape is to be listed, as it is where planlist is started without arguments.
-fn is_asked() -> bool {
-    work_asked(
-        b"planlist",
-        b"usage: planlist < tape\n\
-        Plans a whole tape and writes a header and a line for each block, in tape order.\n\
-        Lengths are um, accel is um/s^2; entry, peak and exit are squared speeds.\n\
-        A tape that is refused gives `refused N at P`: P is the record from 1, or 0.\n",
-    )
-}
-
-fn main() {
-    if !is_asked() {
-        return;
-    }
+// Lists the tape of standard input.
+fn list_input(steps: &[u8]) {
     let mut input = [0u8; INPUT];
     match read_input(&mut input) {
         Input::Bytes(got) => list(&input[..got]),
         Input::Failed => say_error(b"planlist: standard input could not be read to its end\n"),
+    }
+}
+
+fn main() {
+    let mut steps = [0u8; STEPS];
+    let order = read_order(
+        b"planlist",
+        b"usage: planlist [--steps FILE] < tape\n\
+        Plans a whole tape and writes a header and a line for each block, in tape order.\n\
+        Lengths are um, accel is um/s^2; entry, peak and exit are squared speeds.\n\
+        A tape that is refused gives `refused N at P`: P is the record from 1, or 0.\n\
+        FILE: the owner's 8 torque percentages, a byte each; if none or empty, built-in.\n",
+        &mut steps,
+    );
+    match order {
+        Order::Work(n) => list_input(&steps[..n]),
+        Order::Done => return,
     }
 }

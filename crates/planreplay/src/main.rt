@@ -9,7 +9,8 @@ ghost use lib.ListN.{length};
 ghost use Rattle.replay_text.specs.Texts.{cutPlace};
 ghost use Rattle.replay_text.specs.Turns.{chunkBytes};
 ghost use Rattle.planreplay.specs.Places.{endCalls, turnBytes};
-use arguments::work_asked;
+use arguments::Order;
+use arguments::read_order;
 use display::Refusal;
 use display::refusal_number;
 use libc::STDERR_FILENO;
@@ -26,6 +27,8 @@ use text::Put;
 
 // Bytes of a chunk: as many calls as are run at a time.
 const CHUNK: usize = CALL_BYTES * replay_text::CALLS;
+// One byte more than good torque steps have: a longer file is refused whatever follows.
+const STEPS: usize = 9;
 // Reading ends at this many calls, which no input has.
 const MOST_CALLS: u64 = 18_446_744_073_709_551_000;
 
@@ -176,25 +179,29 @@ fn start(head: &[u8], text: &mut [u8; TEXT]) {
     }
 }
 
-// Whether a trace is to be run, as it is where planreplay is started without arguments.
-fn is_asked() -> bool {
-    work_asked(
-        b"planreplay",
-        b"usage: planreplay < trace\n\
-        Runs recorded calls and writes a line for each: `added`, `refused N`, or the\n\
-        block given out as planlist lists it; then `held N`, and `plan` and its numbers.\n\
-        Refused limits give `refused N at 0`; a call K that is cut, `refused 9 at K`.\n",
-    )
-}
-
-fn main() {
-    if !is_asked() {
-        return;
-    }
+// Runs the trace of standard input.
+fn replay_input(steps: &[u8]) {
     let mut text = io::large_buffer();
     let mut head = [0u8; LIMITS_BYTES];
     match read_input(&mut head) {
         Input::Bytes(got) => start(&head[..got], &mut text),
         Input::Failed => say_unread(),
+    }
+}
+
+fn main() {
+    let mut steps = [0u8; STEPS];
+    let order = read_order(
+        b"planreplay",
+        b"usage: planreplay [--steps FILE] < trace\n\
+        Runs recorded calls and writes a line for each: `added`, `refused N`, or the\n\
+        block given out as planlist lists it; then `held N`, and `plan` and its numbers.\n\
+        Refused limits or steps give `refused N at 0`; a cut call K, `refused 9 at K`.\n\
+        FILE: the owner's 8 torque percentages, a byte each; if none or empty, built-in.\n",
+        &mut steps,
+    );
+    match order {
+        Order::Work(n) => replay_input(&steps[..n]),
+        Order::Done => return,
     }
 }

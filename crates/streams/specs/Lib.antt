@@ -1,2 +1,2 @@
--- What reading standard input answers.
+-- What reading a stream answers.
 pub mod Input

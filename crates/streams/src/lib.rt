@@ -1,4 +1,4 @@
-// Standard input as the programs read it.
+// What the programs read: standard input, and any file that is open.
 ghost use mathlib.Core.Path.{_≡_};
 ghost use lib.ListN.{length};
 ghost use Rattle.streams.specs.Input.{nextOf, Within};
@@ -14,7 +14,7 @@ enum Next {
     Failed,
 }
 
-// What was read of standard input.
+// What was read of a stream.
 pub enum Input {
     // so many bytes: all that there was room for, or all to the end of the input
     Bytes(usize),
@@ -36,23 +36,30 @@ fn after(answer: isize) -> Next
     Next::Ended
 }
 
-// Reads until the list is full or the input ends, or until a read fails; the bytes stand at the list's beginning, one
-// read's behind the other's.
+// Reads what a descriptor is open on until the list is full or the input ends, or until a read fails; the bytes stand at the
+// list's beginning, one read's behind the other's.
 //
 // Open is which of the two answers it gives where the list has room, how many bytes `Bytes` says, and what the list
 // holds then: that is what `read` answers and stores, of which its contract says only that it is -1 or no more than
 // there is room for. What is promised: so many bytes as it says are in the list, and it fails only where there was
 // room to read into. What it makes of each answer is the promise of `after`.
-pub fn read_input(list: &mut [u8]) -> Input
+pub fn read_from(fd: i32, list: &mut [u8]) -> Input
     ensures { λ r. ⌜ Within (length (now (list .exit))) r ⌝ }
 {
     let mut got: usize = 0;
     while got < list.len() {
-        match after(libc::read(STDIN_FILENO, &mut list[got..])) {
+        match after(libc::read(fd, &mut list[got..])) {
             Next::More(count) => got += count,
             Next::Ended => return Input::Bytes(got),
             Next::Failed => return Input::Failed,
         }
     }
     Input::Bytes(got)
+}
+
+// The same of standard input.
+pub fn read_input(list: &mut [u8]) -> Input
+    ensures { λ r. ⌜ Within (length (now (list .exit))) r ⌝ }
+{
+    read_from(STDIN_FILENO, list)
 }

@@ -1,30 +1,28 @@
--- `planlist::main`: the bytes that were read are in the list.
-use Rattle.streams.proofs.Within.{bytes-within, part-sized}
+-- `planlist::main`: the steps that were read are in the list.
+use Rattle.arguments.proofs.Read.{steps-within, steps-sized}
 use borrow.Author.Needs.{needs}
 use Rattle.planlist.proofs.main.Statement.{statement}
 use Rattle.planlist.proofs.main.Tie as tie
 
-array-share-prefix-input : tie.Need-array-share-prefix-input
-array-share-prefix-input c = bytes-within (c .before .got .given .1) (c .before .before .before .before .read-input .ensures)
+array-share-prefix-steps : tie.Need-array-share-prefix-steps
+array-share-prefix-steps c = steps-within (c .before .order .given .1) (c .before .before .before .before .read-order .ensures)
 
-slice-aggregate-list : tie.Need-slice-aggregate-list
-slice-aggregate-list c =
-    part-sized _ (c .before .before .got .given .1) (c .before .before .before .before .before .read-input .ensures)
+slice-aggregate-list-input : tie.Need-slice-aggregate-list-input
+slice-aggregate-list-input c =
+    steps-sized _ (c .before .before .order .given .1) (c .before .before .before .before .before .read-order .ensures)
 
 pub main-spec : {M : Type 1} → statement M
 main-spec =
     tie.close
     (tie.spec
-    (λ c κs. search needs)
     (λ c. search needs)
-    (λ c. search needs)
-    (λ c κs. search needs)
-    (λ c. search needs)
-    array-share-prefix-input
-    slice-aggregate-list
-    (λ c κs. search needs)
     (λ c. search needs)
     (λ c. search needs)
     (λ c κs. search needs)
+    (λ c. search needs)
+    array-share-prefix-steps
+    slice-aggregate-list-input
+    (λ c κs. search needs)
+    (λ c. search needs)
     (λ c. search needs)
     (λ c. search needs))

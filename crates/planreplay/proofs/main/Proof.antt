@@ -1,30 +1,28 @@
--- `planreplay::main`: the bytes that were read are in the list.
-use Rattle.streams.proofs.Within.{bytes-within, part-sized}
+-- `planreplay::main`: the steps that were read are in the list.
+use Rattle.arguments.proofs.Read.{steps-within, steps-sized}
 use borrow.Author.Needs.{needs}
 use Rattle.planreplay.proofs.main.Statement.{statement}
 use Rattle.planreplay.proofs.main.Tie as tie
 
-array-share-prefix-head : tie.Need-array-share-prefix-head
-array-share-prefix-head c = bytes-within (c .before .got .given .1) (c .before .before .before .before .read-input .ensures)
+array-share-prefix-steps : tie.Need-array-share-prefix-steps
+array-share-prefix-steps c = steps-within (c .before .order .given .1) (c .before .before .before .before .read-order .ensures)
 
-slice-aggregate-start : tie.Need-slice-aggregate-start
-slice-aggregate-start c =
-    part-sized _ (c .before .before .got .given .1) (c .before .before .before .before .before .read-input .ensures)
+slice-aggregate-replay-input : tie.Need-slice-aggregate-replay-input
+slice-aggregate-replay-input c =
+    steps-sized _ (c .before .before .order .given .1) (c .before .before .before .before .before .read-order .ensures)
 
 pub main-spec : {M : Type 1} → statement M
 main-spec =
     tie.close
     (tie.spec
-    (λ c κs. search needs)
+    (λ c. search needs)
+    (λ c. search needs)
     (λ c. search needs)
     (λ c κs. search needs)
     (λ c. search needs)
+    array-share-prefix-steps
+    slice-aggregate-replay-input
     (λ c κs. search needs)
     (λ c. search needs)
-    array-share-prefix-head
-    slice-aggregate-start
-    (λ c κs. search needs)
-    (λ c. search needs)
-    (λ c κs. search needs)
     (λ c. search needs)
     (λ c. search needs))

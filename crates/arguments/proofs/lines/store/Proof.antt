@@ -1,8 +1,8 @@
--- `arguments::store` meets its contract: the part has room, from `stored-with-room`.
+-- `arguments::lines::store` meets its contract: the part has room, from `stored-with-room`.
 use Rattle.text.proofs.Store.{stored-with-room}
 use borrow.Author.Needs.{needs}
-use Rattle.arguments.proofs.store.Statement.{statement}
-use Rattle.arguments.proofs.store.Tie as tie
+use Rattle.arguments.proofs.lines.store.Statement.{statement}
+use Rattle.arguments.proofs.lines.store.Tie as tie
 
 returns : tie.Need-returns
 returns c =

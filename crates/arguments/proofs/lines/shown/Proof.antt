@@ -1,8 +1,8 @@
--- `arguments::shown` meets its contract: its tests are the definition's.
+-- `arguments::lines::shown` meets its contract: its tests are the definition's.
 use borrow.Author.Tests.{lt-ltb, le-ltb, eq-eqb, ne-eqb}
-use Rattle.arguments.specs.Words.{shownAs}
-use Rattle.arguments.proofs.shown.Statement.{statement}
-use Rattle.arguments.proofs.shown.Tie as tie
+use Rattle.arguments.specs.Lines.{shownAs}
+use Rattle.arguments.proofs.lines.shown.Statement.{statement}
+use Rattle.arguments.proofs.lines.shown.Tie as tie
 
 returns : tie.Need-returns
 unfolding shownAs

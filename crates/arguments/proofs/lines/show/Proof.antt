@@ -1,15 +1,15 @@
--- `arguments::show` meets its contract: the bytes left to show lead to the same text, from `replaced-next`.
+-- `arguments::lines::show` meets its contract: the bytes left to show lead to the same text, from `replaced-next`.
 use mathlib.Core.Path.{_≡_, refl, sym, _∙_}
 use Prim.Native.Nat.{_-_, _≤_}
 use native.Mathlib.Omega.{arith}
 use mathlib.Core.List.{_++_, map, append-nil}
 use lib.ListN.{length, take, drop, length-set}
 use lib.Seq.{take-length, drop-length}
-use Rattle.arguments.specs.Words.{shownAs}
+use Rattle.arguments.specs.Lines.{shownAs}
 use Rattle.arguments.proofs.Replaced.{replaced-next}
 use borrow.Author.Needs.{needs}
-use Rattle.arguments.proofs.show.Statement.{statement}
-use Rattle.arguments.proofs.show.Tie as tie
+use Rattle.arguments.proofs.lines.show.Statement.{statement}
+use Rattle.arguments.proofs.lines.show.Tie as tie
 
 abbrev Inv-loop : tie.InvT-loop
 Inv-loop text₀ i₀ text i =

@@ -1,33 +1,29 @@
--- `arguments::store_wrong` meets its contract: the parts one behind the other, from `stored-next`.
+-- `arguments::lines::store_line` meets its contract: the parts one behind the other, from `stored-next`.
 use native.Mathlib.Omega.{arith}
 use Rattle.text.proofs.Store.{stored-next}
-use Rattle.arguments.specs.Words.{matter, advice, wrongLine}
 use borrow.Author.Needs.{needs}
-use Rattle.arguments.proofs.store_wrong.Statement.{statement}
-use Rattle.arguments.proofs.store_wrong.Tie as tie
+use Rattle.arguments.proofs.lines.store_line.Statement.{statement}
+use Rattle.arguments.proofs.lines.store_line.Tie as tie
 
 returns : tie.Need-returns
-unfolding wrongLine matter advice
 returns c =
     let fourth = c .before .before in
-    let third = fourth .before .before .before .before .before in
+    let third = fourth .before .before .before .before in
     let second = third .before .before .before .before in
-    let first = second .before .before .before .before .before in
+    let first = second .before .before .before .before in
     stored-next
     (stored-next
     (stored-next (first .store .ensures) (second .store2 .ensures) (omega arith))
     (third .store3 .ensures) (omega arith))
     (fourth .store4 .ensures) (omega arith)
 
-pub store-wrong-spec : {M : Type 1} → statement M
-store-wrong-spec =
+pub store-line-spec : {M : Type 1} → statement M
+store-line-spec =
     tie.close
     (tie.spec
     (λ c κs. search needs)
-    (λ c. search needs)
     (λ c κs. search needs)
     (λ c κs. search needs)
-    (λ c. search needs)
     (λ c κs. search needs)
     (λ c. search needs)
     returns)

@@ -1,4 +1,4 @@
--- `streams::read_input` meets its contract and ends: each turn leaves less room.
+-- `streams::read_from` meets its contract and ends: each turn leaves less room.
 use mathlib.Core.Path.{_≡_, refl, sym, ap, _∙_}
 use Prim.Native.Nat.{ℕ, _+_, _-_, _≤_, _<_}
 use native.Mathlib.Omega.{arith}
@@ -11,14 +11,14 @@ use Rattle.streams.specs.declared.Next.the-variants.{More}
 use Rattle.streams.specs.Input.{nextOf}
 use Rattle.streams.proofs.Answers.{more-within}
 use borrow.Author.Needs.{needs}
-use Rattle.streams.proofs.read_input.Statement.{statement}
-use Rattle.streams.proofs.read_input.Tie as tie
+use Rattle.streams.proofs.read_from.Statement.{statement}
+use Rattle.streams.proofs.read_from.Tie as tie
 
 abbrev Inv-loop : tie.InvT-loop
-Inv-loop list₀ got₀ list got = (got ≤ length list) × (length list ≡ length list₀)
+Inv-loop fd list₀ got₀ list got = (got ≤ length list) × (length list ≡ length list₀)
 
 abbrev μ-loop : tie.MeasureT-loop
-μ-loop list₀ got₀ list got = length list - got
+μ-loop fd list₀ got₀ list got = length list - got
 
 -- one read, into the part of the list behind what was got, and what it says
 module _ (c : tie.After-after Inv-loop μ-loop) where
@@ -68,8 +68,8 @@ returns c = omega (arith, sized (c .before .before))
 returns-2 : tie.Need-returns-2 Inv-loop μ-loop
 returns-2 c = omega (arith, sized (c .before .before))
 
-pub read-input-spec : {M : Type 1} → statement M
-read-input-spec =
+pub read-from-spec : {M : Type 1} → statement M
+read-from-spec =
     tie.close
     (tie.spec
     Inv-loop

@@ -1,0 +1,23 @@
+-- So many bytes as were read are in the list.
+use mathlib.Core.List.{List}
+use mathlib.Core.Path.{_≡_, sym, subst}
+use Prim.Native.Nat.{ℕ, _≤_}
+use lib.ListN.{length, take}
+use lib.Seq.{length-take-le}
+use Rattle.arguments.specs.declared.FileRead.{FileRead}
+use Rattle.arguments.specs.declared.FileRead.the-variants.{Bytes}
+use Rattle.arguments.specs.declared.Order.{Order}
+use Rattle.arguments.specs.declared.Order.the-variants.{Work}
+use Rattle.arguments.specs.Files.{Within}
+use Rattle.arguments.specs.Words.{Fits}
+
+-- of a file
+pub bytes-within : {answer : FileRead} {n room : ℕ} → answer ≡ Bytes n → Within room answer → n ≤ room
+bytes-within {room = room} e h = subst (Within room) e h
+
+-- of the steps, and the part of the list that they are has as many
+pub steps-within : {order : Order} {n room : ℕ} → order ≡ Work n → Fits room order → n ≤ room
+steps-within {room = room} e h = subst (Fits room) e h
+
+pub steps-sized : (list : List ℕ) {order : Order} {n : ℕ} → order ≡ Work n → Fits (length list) order → n ≡ length (take n list)
+steps-sized list e h = sym (length-take-le _ list (steps-within e h))

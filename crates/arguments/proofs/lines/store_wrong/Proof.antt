@@ -1,0 +1,19 @@
+-- `arguments::lines::store_wrong` meets its contract: its line is that of `store_line`.
+use Rattle.arguments.specs.Lines.{advice, unexpected, wrongLine}
+use borrow.Author.Needs.{needs}
+use Rattle.arguments.proofs.lines.store_wrong.Statement.{statement}
+use Rattle.arguments.proofs.lines.store_wrong.Tie as tie
+
+returns : tie.Need-returns
+unfolding wrongLine unexpected advice
+returns c = c .before .before .store-line .ensures
+
+pub store-wrong-spec : {M : Type 1} → statement M
+store-wrong-spec =
+    tie.close
+    (tie.spec
+    (λ c. search needs)
+    (λ c. search needs)
+    (λ c κs. search needs)
+    (λ c. search needs)
+    returns)

@@ -1,0 +1,30 @@
+-- `arguments::words::with_word` meets its contract: its cases are the definition's, and an option is that of `with_option`.
+use mathlib.Core.Path.{_∙_}
+use Rattle.arguments.specs.Words.{askedAfter}
+use borrow.Author.Needs.{needs}
+use Rattle.arguments.proofs.words.with_word.Statement.{statement}
+use Rattle.arguments.proofs.words.with_word.Tie as tie
+
+returns : tie.Need-returns
+unfolding askedAfter
+returns c words = c .with-option .ensures words ∙ rw (c .before .before .seen .given .1)
+
+returns-2 : tie.Need-returns-2
+unfolding askedAfter
+returns-2 c words = rw (c .before .seen2 .given .1)
+
+returns-3 : tie.Need-returns-3
+unfolding askedAfter
+returns-3 c words = rw (c .before .seen3 .given .1)
+
+pub with-word-spec : {M : Type 1} → statement M
+with-word-spec =
+    tie.close
+    (tie.spec
+    (λ c. search needs)
+    (λ c κs. search needs)
+    (λ c. search needs)
+    (λ c. search needs)
+    returns
+    returns-2
+    returns-3)

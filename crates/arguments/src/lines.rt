@@ -1,0 +1,160 @@
+// What is told: the usage, or in one line on standard error what is wrong.
+ghost use mathlib.Core.Path.{_≡_};
+ghost use Prim.Native.Nat.{_+_, _≤_, min};
+ghost use mathlib.Core.List.{map};
+ghost use lib.ListN.{length};
+ghost use Rattle.io.specs.Counts.{Counts};
+ghost use Rattle.text.specs.Store.{Stored};
+ghost use Rattle.arguments.specs.Lines.{aroundSize, failedLine, lacksLine, lineOf, nameSize, shownAs, wrongLine};
+use crate::Fault;
+use crate::words::read_word;
+use libc::STDERR_FILENO;
+use libc::STDOUT_FILENO;
+use text::behind;
+use text::put_bytes;
+
+// Bytes of a program's name that are shown, of a word, and most of the words around them.
+pub const NAME: usize = 64;
+
+const WORD: usize = 256;
+
+const AROUND: usize = 62;
+// Bytes of the longest line.
+const LINE: usize = NAME + WORD + AROUND;
+
+// The smaller of two numbers.
+pub fn smaller(a: usize, b: usize) -> usize
+    ensures { λ r. ⌜ r ≡ min a b ⌝ }
+{
+    if a < b { a } else { b }
+}
+
+// How a byte is shown in a line: a control character, such as a line feed, as a question mark.
+fn shown(byte: u8) -> u8
+    ensures { λ r. ⌜ r ≡ shownAs byte ⌝ }
+{
+    if byte < 32 {
+        return b'?';
+    }
+    if byte == 127 {
+        return b'?';
+    }
+    byte
+}
+
+// Makes a text fit to be shown in a line.
+fn show(text: &mut [u8])
+    ensures { λ _. ⌜ now (text .exit) ≡ map shownAs (now (text .entry)) ⌝ }
+{
+    let mut i: usize = 0;
+    while i < text.len() {
+        text[i] = shown(text[i]);
+        i += 1;
+    }
+}
+
+// Stores a part of a line, for which there is room.
+fn store(line: &mut [u8], at: usize, part: &[u8]) -> usize
+    requires { ⌜ at + length (now part) ≤ length (now line) ⌝ }
+    ensures { λ r. ⌜ Stored (now (line .entry)) at (now (part .entry)) r (now (line .exit)) ⌝ }
+{
+    behind(put_bytes(line, at, part), at)
+}
+
+// Stores a line about a word: what is the matter before it, and the rest behind it.
+fn store_line(line: &mut [u8], program: &[u8], matter: &[u8], word: &[u8], rest: &[u8]) -> usize
+    requires { ⌜ length (now program) + length (now matter) + length (now word) + length (now rest) ≤ length (now line) ⌝ }
+    ensures { λ r. ⌜ Stored (now (line .entry)) 0 (lineOf (now (program .entry)) (now (matter .entry)) (now (word .entry)) (now (rest .entry))) r (now (line .exit)) ⌝ }
+{
+    let named = store(line, 0, program);
+    let told = store(line, named, matter);
+    let quoted = store(line, told, word);
+    store(line, quoted, rest)
+}
+
+// Stores the line that names a wrong word.
+fn store_wrong(line: &mut [u8], program: &[u8], word: &[u8]) -> usize
+    requires { ⌜ length (now program) + length (now word) + aroundSize ≤ length (now line) ⌝ }
+    ensures { λ r. ⌜ Stored (now (line .entry)) 0 (wrongLine (now (program .entry)) (now (word .entry))) r (now (line .exit)) ⌝ }
+{
+    store_line(
+        line,
+        program,
+        b": unexpected argument '",
+        word,
+        b"'; it reads standard input, see --help\n",
+    )
+}
+
+// Stores the line of a `--steps` without its file.
+fn store_lacks(line: &mut [u8], program: &[u8]) -> usize
+    requires { ⌜ length (now program) + aroundSize ≤ length (now line) ⌝ }
+    ensures { λ r. ⌜ Stored (now (line .entry)) 0 (lacksLine (now (program .entry))) r (now (line .exit)) ⌝ }
+{
+    let named = store(line, 0, program);
+    store(
+        line,
+        named,
+        b": '--steps' needs the name of a file, see --help\n",
+    )
+}
+
+// Stores the line of a file that could not be opened or read, up to the system's reason.
+fn store_failed(line: &mut [u8], program: &[u8], fault: Fault, name: &[u8]) -> usize
+    requires { ⌜ length (now program) + length (now name) + aroundSize ≤ length (now line) ⌝ }
+    ensures { λ r. ⌜ Stored (now (line .entry)) 0 (failedLine (now (program .entry)) fault (now (name .entry))) r (now (line .exit)) ⌝ }
+{
+    match fault {
+        Fault::Unopened => store_line(line, program, b": cannot open '", name, b"'"),
+        Fault::Unread => store_line(line, program, b": cannot read '", name, b"'"),
+    }
+}
+
+// Reads the word at a place as it is shown in a line. Returns how many bytes it has.
+fn read_shown(place: usize, word: &mut [u8]) -> usize
+    ensures { λ r. ⌜ Counts r (now (word .exit)) ⌝ }
+{
+    let got = read_word(place, word);
+    show(word);
+    got
+}
+
+// Says which word is wrong, as much of it as is shown.
+pub fn say_wrong(program: &[u8], place: usize)
+    requires { ⌜ length (now program) ≤ nameSize ⌝ }
+{
+    let mut word = [0u8; WORD];
+    let got = read_shown(place, &mut word);
+    let mut line = [0u8; LINE];
+    let end = store_wrong(&mut line, program, &word[..got]);
+    io::write_all(STDERR_FILENO, &line[..end]);
+}
+
+// Says that the file of `--steps` is missing.
+pub fn say_lacks(program: &[u8])
+    requires { ⌜ length (now program) ≤ nameSize ⌝ }
+{
+    let mut line = [0u8; LINE];
+    let end = store_lacks(&mut line, program);
+    io::write_all(STDERR_FILENO, &line[..end]);
+}
+
+// Says that the file of this name could not be opened or read, as much of the name as is shown, and why: `os::fail` adds the
+// system's reason, that of the last call that failed, and the line's end.
+pub fn say_failed(program: &[u8], fault: Fault, name: &mut [u8])
+    requires { ⌜ length (now program) ≤ nameSize ⌝ }
+{
+    show(name);
+    let named = smaller(name.len(), WORD);
+    let mut line = [0u8; LINE];
+    let end = store_failed(&mut line, program, fault, &name[..named]);
+    os::fail(&line[..end]);
+}
+
+// Writes the usage to standard output.
+pub fn say_usage(program: &[u8], usage: &[u8]) {
+    if !io::write_all(STDOUT_FILENO, usage) {
+        io::write_all(STDERR_FILENO, program);
+        io::write_all(STDERR_FILENO, b": standard output did not take the usage\n");
+    }
+}
