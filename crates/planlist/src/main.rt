@@ -1,4 +1,5 @@
-// Lists the tape of standard input: document 01's listing, or the one line of its refusal. Where the input cannot be read to
+// Lists the tape of standard input, planned with the torque steps of the file that `--steps` names, or the built-in ones:
+// document 01's listing, or the one line of its refusal. Where the input cannot be read to
 // its end, or the output does not take the whole text, a line on standard error says so.
 use arguments::Order;
 use arguments::read_order;
@@ -15,18 +16,18 @@ use tapeplan::sheet::SHEET;
 // One byte more than the longest tape: a longer input is refused by 10 whatever follows, so no more of it is read.
 const INPUT: usize = MOST_BYTES + 1;
 // One byte more than good torque steps have: a longer file is refused whatever follows.
-const STEPS: usize = 9;
+const STEPS: usize = machine::torque::STEPS + 1;
 
 // Writes a line to standard error.
 fn say_error(line: &[u8]) {
     io::write_all(STDERR_FILENO, line);
 }
 
-// Writes the listing of a tape part after part, as long as they are taken. It ends at a part without a byte: behind that
-// there is none.
-fn list(tape: &[u8]) {
+// Writes the listing of a tape with loaded steps part after part, as long as they are taken. It ends at a part without a
+// byte: behind that there is none.
+fn list(tape: &[u8], steps: &[u8]) {
     let mut sheet = [0u64; SHEET];
-    let listing = Listing::of(tape, &mut sheet);
+    let listing = Listing::of(tape, steps, &mut sheet);
     let mut text = [0u8; TEXT];
     let mut p: usize = 0;
     while p < PARTS {
@@ -42,11 +43,11 @@ fn list(tape: &[u8]) {
     }
 }
 
-// Lists the tape of standard input.
+// Lists the tape of standard input with loaded steps.
 fn list_input(steps: &[u8]) {
     let mut input = [0u8; INPUT];
     match read_input(&mut input) {
-        Input::Bytes(got) => list(&input[..got]),
+        Input::Bytes(got) => list(&input[..got], steps),
         Input::Failed => say_error(b"planlist: standard input could not be read to its end\n"),
     }
 }

@@ -1,7 +1,8 @@
-// Runs the trace of standard input, of any length, in constant memory, and writes a line for each
-// call: `added`, `refused` with the number, or the nine numbers of a block given out; then the number
-// of blocks held, and the plan. A trace with no whole limits, or with limits that do not pass, gets
-// the one line `refused` with number and place 0. A trace that ends inside a call gets such a line
+// Runs the trace of standard input, of any length, in constant memory, with the torque steps of the
+// file that `--steps` names, or the built-in ones, and writes a line for each call: `added`, `refused`
+// with the number, or the nine numbers of a block given out; then the number of blocks held, and the
+// plan. A trace with no whole limits, or limits or steps that do not pass, gets the one line `refused`
+// with number and place 0. A trace that ends inside a call gets such a line
 // in that call's place, with its place counted from 1, and then the two closing lines.
 ghost use mathlib.Core.Path.{_≡_};
 ghost use Prim.Native.Nat.{_≤_, _<_};
@@ -11,6 +12,7 @@ ghost use Rattle.replay_text.specs.Turns.{chunkBytes};
 ghost use Rattle.planreplay.specs.Places.{endCalls, turnBytes};
 use arguments::Order;
 use arguments::read_order;
+use display::Checked;
 use display::Refusal;
 use display::refusal_number;
 use libc::STDERR_FILENO;
@@ -28,7 +30,7 @@ use text::Put;
 // Bytes of a chunk: as many calls as are run at a time.
 const CHUNK: usize = CALL_BYTES * replay_text::CALLS;
 // One byte more than good torque steps have: a longer file is refused whatever follows.
-const STEPS: usize = 9;
+const STEPS: usize = machine::torque::STEPS + 1;
 // Reading ends at this many calls, which no input has.
 const MOST_CALLS: u64 = 18_446_744_073_709_551_000;
 
@@ -150,12 +152,10 @@ fn finish(place: u64, memory: &[u64; NUMBERS], text: &mut [u8; TEXT]) -> bool {
 }
 
 // Runs the calls behind the limits, and closes.
-fn replay(l: Limits, text: &mut [u8; TEXT]) {
-    let mut memory = [0u64; NUMBERS];
-    planner::fresh(&mut memory, l);
-    match run_calls(&mut memory, text) {
+fn run_to_end(memory: &mut [u64; NUMBERS], text: &mut [u8; TEXT]) {
+    match run_calls(memory, text) {
         Ended::At(place) => {
-            if !finish(place, &memory, text) {
+            if !finish(place, memory, text) {
                 say_unwritten();
             }
         }
@@ -164,27 +164,36 @@ fn replay(l: Limits, text: &mut [u8; TEXT]) {
     }
 }
 
-// Writes the one line of limits that are refused.
+// Writes the one line of limits or steps that are refused.
 fn refuse(number: u64, text: &mut [u8; TEXT]) {
     if !say_refused(number, 0, text) {
         say_unwritten();
     }
 }
 
-// What the bytes of the limits say decides.
-fn start(head: &[u8], text: &mut [u8; TEXT]) {
+// Runs the calls of a planner with these limits and loaded steps, or says why there is none.
+fn replay(l: Limits, steps: &[u8], text: &mut [u8; TEXT]) {
+    let mut memory = [0u64; NUMBERS];
+    match planner::fresh(&mut memory, l, steps) {
+        Checked::Refused(why) => refuse(refusal_number(why), text),
+        Checked::Passed => run_to_end(&mut memory, text),
+    }
+}
+
+// What the bytes of the limits say decides, then the steps.
+fn start(head: &[u8], steps: &[u8], text: &mut [u8; TEXT]) {
     match tape::limits::read_limits(head) {
-        LimitsRead::Read(l) => replay(l, text),
+        LimitsRead::Read(l) => replay(l, steps, text),
         LimitsRead::Refused(why) => refuse(refusal_number(why), text),
     }
 }
 
-// Runs the trace of standard input.
+// Runs the trace of standard input with loaded steps.
 fn replay_input(steps: &[u8]) {
     let mut text = io::large_buffer();
     let mut head = [0u8; LIMITS_BYTES];
     match read_input(&mut head) {
-        Input::Bytes(got) => start(&head[..got], &mut text),
+        Input::Bytes(got) => start(&head[..got], steps, &mut text),
         Input::Failed => say_unread(),
     }
 }
