@@ -2,7 +2,7 @@
  *
  * Link with libfullerecru.a, for x86-64 Linux (ELF, System V calls); `rt staticlib fullerecru` makes
  * it. The library allocates nothing and keeps nothing between calls: all that it works on is lent
- * by the caller. Of the C library it calls memset alone. It has at most 128 bytes of read-only data.
+ * by the caller. Of the C library it calls memset alone. It has at most 192 bytes of read-only data.
  * A call needs under 1 kB of stack, fullerecru_replay under 8 kB and fullerecru_plan_tape under 34 kB.
  *
  * Units: lengths in µm, speeds in µm/s, squared speeds in (µm/s)², accelerations in µm/s², the

@@ -24,8 +24,8 @@ pub enum Checked {
     Refused(Refusal),
 }
 
-// The number on the display as a byte: where the numbers have gaps the compiler keeps them in a table, which is then short.
-fn short_number(why: Refusal) -> u8
+// The number on the display.
+pub fn refusal_number(why: Refusal) -> u64
     ensures { λ r. ⌜ r ≡ refusalNumber why ⌝ }
 {
     match why {
@@ -42,13 +42,6 @@ fn short_number(why: Refusal) -> u8
         Refusal::List => 11,
         Refusal::Steps => 14,
     }
-}
-
-// The number on the display.
-pub fn refusal_number(why: Refusal) -> u64
-    ensures { λ r. ⌜ r ≡ refusalNumber why ⌝ }
-{
-    short_number(why) as u64
 }
 
 // The number on the display of a check's answer; 0 says that it passed.
