@@ -44,14 +44,15 @@ expected:
 	$(REFERENCE) planlist_ref < crates/planlist/stdin > crates/planlist/stdout
 	$(REFERENCE) planreplay_ref < crates/planreplay/stdin > crates/planreplay/stdout
 
-# make examples: the example tapes and traces, made again.
+# make examples: the example tapes, traces and torque steps, made again.
 TAPES = $(addprefix examples/tapes/,right-angle.tape mould-row.tape square-pocket.tape to-and-fro.tape)
 TRACES = examples/traces/shop-traffic.trace
+STEPS = examples/steps/soft-motors.steps
 
-examples: $(TAPES) $(TRACES)
+examples: $(TAPES) $(TRACES) $(STEPS)
 
-.PHONY: $(TAPES) $(TRACES)
-$(TAPES) $(TRACES):
+.PHONY: $(TAPES) $(TRACES) $(STEPS)
+$(TAPES) $(TRACES) $(STEPS):
 	@mkdir -p $(@D)
 	$(REFERENCE) maketape -- $(basename $(@F)) > $@
 

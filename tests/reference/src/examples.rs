@@ -1,4 +1,4 @@
-//! Example tapes and traces.
+//! Example tapes, traces and torque steps.
 
 use crate::generate::machine_m;
 use crate::machine::{Block, Limits};
@@ -27,6 +27,17 @@ pub const TRACE_NAMES: [&str; 1] = ["shop-traffic"];
 pub fn example_trace(name: &str) -> Option<Vec<u8>> {
     match name {
         "shop-traffic" => Some(pack_trace(&mill(), &shop_traffic())),
+        _ => None,
+    }
+}
+
+/// Names of the example torque steps.
+pub const STEP_NAMES: [&str; 1] = ["soft-motors"];
+
+/// The bytes of the example torque steps of a name, percent.
+pub fn example_steps(name: &str) -> Option<[u8; 8]> {
+    match name {
+        "soft-motors" => Some([100, 80, 65, 50, 40, 32, 26, 20]),
         _ => None,
     }
 }

@@ -1,10 +1,13 @@
-//! The stored example tapes and traces.
+//! The stored example tapes, traces and torque steps.
 
 use std::fs;
 use std::path::PathBuf;
 
-use reference::examples::{example, example_trace, shop_traffic, AHEAD, NAMES, TRACE_NAMES};
-use reference::listing::planreplay;
+use reference::examples::{
+    example, example_steps, example_trace, shop_traffic, AHEAD, NAMES, STEP_NAMES, TRACE_NAMES,
+};
+use reference::listing::{planlist, planreplay};
+use reference::machine::read_steps;
 use reference::trace::Call;
 
 /// The bytes of a file under `examples`.
@@ -28,6 +31,19 @@ fn stored_traces_are_these() {
         assert!(stored(&format!("traces/{name}.trace")) == trace, "{name}");
     }
     assert_eq!(example_trace("none"), None);
+}
+
+/// They are accepted, and the pocket is planned otherwise with them.
+#[test]
+fn stored_steps_are_these() {
+    let pocket = example("square-pocket").unwrap().pack();
+    for name in STEP_NAMES {
+        let steps = example_steps(name).unwrap();
+        assert_eq!(stored(&format!("steps/{name}.steps")), steps, "{name}");
+        assert_eq!(read_steps(&steps), Ok(steps), "{name}");
+        assert_ne!(planlist(&pocket, &steps), planlist(&pocket, &[]), "{name}");
+    }
+    assert_eq!(example_steps("none"), None);
 }
 
 /// The shop's line holds 0 to 8 blocks, and all of these numbers occur. It is

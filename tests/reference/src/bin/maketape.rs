@@ -1,9 +1,9 @@
-//! Writes an example tape or trace, or a seeded one, to standard output.
+//! Writes an example tape, trace or list of torque steps, or a seeded tape or trace, to standard output.
 
 use std::io::{self, Write};
 use std::process::ExitCode;
 
-use reference::examples::{example, example_trace, NAMES, TRACE_NAMES};
+use reference::examples::{example, example_steps, example_trace, NAMES, STEP_NAMES, TRACE_NAMES};
 use reference::generate::{faulty_tape, tape, trace};
 use reference::rng::Rng;
 
@@ -11,7 +11,7 @@ use reference::rng::Rng;
 fn main() -> ExitCode {
     let arguments: Vec<String> = std::env::args().skip(1).collect();
     let Some(bytes) = bytes_of(&arguments) else {
-        let names = [&NAMES[..], &TRACE_NAMES[..]].concat();
+        let names = [&NAMES[..], &TRACE_NAMES[..], &STEP_NAMES[..]].concat();
         eprintln!("maketape {}", names.join(" | "));
         eprintln!("maketape tape | faulty | trace SEED");
         return ExitCode::FAILURE;
@@ -27,7 +27,8 @@ fn bytes_of(arguments: &[String]) -> Option<Vec<u8>> {
     match arguments {
         [name] => {
             let tape = example(name).map(|tape| tape.pack());
-            tape.or_else(|| example_trace(name))
+            let steps = || example_steps(name).map(|steps| steps.to_vec());
+            tape.or_else(|| example_trace(name)).or_else(steps)
         }
         [kind, seed] => seeded(kind, &mut Rng::new(seed.parse().ok()?)),
         _ => None,
