@@ -3,7 +3,6 @@
 ghost use mathlib.Core.List.{[]};
 ghost use mathlib.Core.Path.{_≡_};
 ghost use Prim.Native.Nat.{_≤_, _<_};
-ghost use lib.ListN.{length};
 ghost use Rattle.machine.specs.Answers.{loadedAnswer, machineMeans};
 ghost use Rattle.machine.specs.Ranges.{mostFeed, mostPercent};
 ghost use Rattle.machine.specs.Torque.{falling, machineOf, torquePercent};

@@ -1,14 +1,13 @@
 -- `replay::replay` meets its contract: making the planner decides, then the lists' lengths, else the calls are run. From the planner's promises.
 use mathlib.Core.List.{List}
-use mathlib.Core.Path.{_≡_, sym, ap, _∙_}
+use mathlib.Core.Path.{_≡_, sym, ap}
 use Prim.Native.Nat.{ℕ, _-_, _≤_}
 use native.Mathlib.Omega.{arith}
 use lib.ListN.{length, take, drop, length-drop, length-take}
 use lib.Seq.{take-all}
 use Rattle.display.specs.Display.{checkedMeans}
 use Rattle.display.proofs.Answers.{told-refused, told-passed}
-use Rattle.tape.specs.Tape.{limitsBytes, limitsAt}
-use Rattle.planner.specs.Calls.{Freshened}
+use Rattle.tape.specs.Tape.{limitsBytes}
 use Rattle.replay.specs.Replays.{beginRefusal}
 use Rattle.replay.proofs.Heads.{begun-long, begin-refused, answers-refused, plan-refused, trace-run}
 use Rattle.replay.proofs.Runs.{demanded}

@@ -1,9 +1,8 @@
 -- `arguments::words::kind_of` meets its contract: its tests are the definition's.
-use mathlib.Core.Path.{_≡_, sym, _∙_}
+use mathlib.Core.Path.{_≡_}
 use Prim.Native.Nat.{ℕ}
 use native.Mathlib.Omega.{arith}
 use mathlib.Core.Bool.{Bool, true, false}
-use Rattle.arguments.specs.Words.{Known}
 use Rattle.arguments.proofs.Asks.{known-help, known-steps, known-other}
 use borrow.Author.Needs.{needs}
 use Rattle.arguments.proofs.words.kind_of.Statement.{statement}

@@ -1,5 +1,5 @@
 -- `machine::answer::machine_answer` meets its contract: limits that are refused decide, else the steps do.
-use mathlib.Core.Path.{_≡_, sym, ap, _∙_}
+use mathlib.Core.Path.{sym, ap, _∙_}
 use Prim.Native.Nat.{ℕ}
 use borrow.Author.Needs.{needs}
 use Rattle.display.specs.Display.{orRefused}

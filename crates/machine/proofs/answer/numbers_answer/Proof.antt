@@ -1,9 +1,7 @@
 -- `machine::answer::numbers_answer` meets its contract: what passed the checks has the numbers.
-use mathlib.Core.List.{List}
-use mathlib.Core.Path.{_≡_, refl, sym, ap, subst, _∙_}
-use Prim.Native.Nat.{ℕ}
+use mathlib.Core.Path.{_≡_, sym, ap, subst, _∙_}
 use borrow.Author.Needs.{needs}
-use Rattle.display.specs.Display.{_then_, given}
+use Rattle.display.specs.Display.{given}
 use Rattle.display.proofs.Answers.{given-is, refused-is, refuses-by, told-passed, told-refused, gives, then-first, then-second, then-zero}
 use Rattle.machine.specs.Answers.{machineMeans}
 use Rattle.machine.specs.Checks.{limitsRefusal, blockRefusal}

@@ -1,11 +1,9 @@
 -- `machine::torque::is_falling` meets its contract: before step k those before it have passed, and `most` is the last of them. From the laws of steps.
 use mathlib.Core.Path.{_≡_, refl, sym, ap, _∙_}
-use mathlib.Core.Bool.{Bool, true, false}
 use mathlib.Core.List.{List}
 use Prim.Native.Nat.{ℕ, _+_, _-_, _≤_}
 use borrow.Author.Needs.{needs}
 use borrow.Author.Tests.{not-true, not-false}
-use native.Mathlib.Omega.{arith}
 use lib.ListN.{length, getD, drop}
 use Rattle.machine.specs.Checks.{within}
 use Rattle.machine.specs.Ranges.{leastPercent, mostPercent}

@@ -1,17 +1,13 @@
 -- `machine::torque::with_steps` meets its contract, by the tests of loaded steps.
-use mathlib.Core.List.{List}
-use mathlib.Core.Path.{_≡_, refl, sym, ap, _∙_}
-use Prim.Native.Nat.{ℕ, _<_}
+use mathlib.Core.Path.{sym, ap, _∙_}
+use Prim.Native.Nat.{ℕ}
 use borrow.Author.Needs.{needs}
 use borrow.Author.Tests.{not-true, not-false}
 use native.Mathlib.Omega.{arith}
-use lib.ListN.{length}
 use Rattle.display.specs.Display.{given}
 use Rattle.display.specs.declared.Refusal.the-variants as why
 use Rattle.display.proofs.Answers.{gives, refuses-by}
-use Rattle.machine.specs.Answers.{loadedAnswer}
 use Rattle.machine.specs.Torque.{stepsRefusal, machineOf}
-use Rattle.machine.specs.declared.Machine.{Machine}
 use Rattle.machine.proofs.TorqueLaws.{loaded-none, loaded-uneven, loaded-rising, loaded-passes, loaded-serve, steps-none}
 use Rattle.machine.proofs.torque.with_steps.Statement.{statement}
 use Rattle.machine.proofs.torque.with_steps.Tie as tie

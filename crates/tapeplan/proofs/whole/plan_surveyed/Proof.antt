@@ -1,5 +1,5 @@
 -- `tapeplan::whole::plan_surveyed` meets its contract: the head decides, or the steps and the records do.
-use mathlib.Core.Path.{_≡_, sym, ap, _∙_}
+use mathlib.Core.Path.{sym, ap, _∙_}
 use Prim.Native.Nat.{ℕ, _<_}
 use borrow.Author.Needs.{needs}
 use Rattle.display.specs.Display.{_at_}
