@@ -189,6 +189,10 @@ pub percent-is : (l : Limits) (loaded : List ℕ) (v : ℕ) → stepsRefusal loa
 unfolding torquePercent
 percent-is l loaded v e h = step-at (stepsInForce loaded) (in-force-fit loaded e) ((v - 1) / 125_000) (omega arith)
 
+-- with no steps loaded it is document 01's
+pub built-in-percents : (l : Limits) (v : ℕ) → v ≤ mostFeed → torquePercent (machineOf l [] .torque) v ≡ getD builtInSteps ((v - 1) / 125_000) 0
+built-in-percents l v h = percent-is l [] v steps-none h
+
 -- it is 1 to 100
 pub percent-in-range : (l : Limits) (loaded : List ℕ) (v : ℕ) → stepsRefusal loaded ≡ 0 → v ≤ mostFeed
     → (leastPercent ≤ torquePercent (machineOf l loaded .torque) v) × (torquePercent (machineOf l loaded .torque) v ≤ mostPercent)
