@@ -99,12 +99,13 @@ enum fullerecru_refusal {
     FULLERECRU_REFUSED_STEPS = 14
 };
 
-/* Torque steps, where a function takes a pointer steps and their count: the percent of the
+/* Torque steps, where a function takes a pointer steps and steps_count: the percent of the
  * acceleration that the motors give at block speeds up to 125,000, 250,000, ... 1,000,000 µm/s, a
  * byte for each of the eight steps. They are accepted if each is 1 to 100 and none exceeds the one
  * before it. A count of 0 loads none, and the built-in steps serve: 100, 100, 90, 80, 70, 60, 50, 40.
  * FULLERECRU_BUILT_IN stands for pointer and count of none, as in
- * fullerecru_fresh(memory, limits, FULLERECRU_BUILT_IN). The bytes are read during the call only. */
+ * fullerecru_fresh(memory, limits, FULLERECRU_BUILT_IN); the pointer must not be null there either.
+ * The bytes are read during the call only. */
 #define FULLERECRU_BUILT_IN (const uint8_t *)"", (size_t)0
 
 /* The planner: 64 places in memory of the caller, who keeps its 781 numbers from call to call.
@@ -119,7 +120,7 @@ enum fullerecru_refusal {
  * Refuses by 1, then 14. Accepted, it writes the memory. */
 uint64_t fullerecru_fresh(uint64_t memory[FULLERECRU_NUMBERS],
                           const uint64_t limits[FULLERECRU_LIMITS], const uint8_t *steps,
-                          size_t count);
+                          size_t steps_count);
 
 /* Adds a block behind those held.
  *
@@ -207,8 +208,8 @@ uint64_t fullerecru_plan_tape(const uint8_t *tape, size_t count, const uint8_t *
 /* Runs a trace, a list of calls, on a planner of its own. The trace is 24 bytes of limits as on
  * tape, then 28 bytes for each call: seven words of 32 bits, most significant byte first: kind (0
  * is a take, any other an add), moves X, Y, Z in two's complement, feed, radius, mark. A take's
- * other words play no part. steps: the torque steps. numbers, the size of answers, must be 15 for each call; junctions,
- * the size of plan, must be 65.
+ * other words play no part. steps: the torque steps. numbers, the size of answers, must be 15 for
+ * each call; junctions, the size of plan, must be 65.
  *
  * Each call gets a row of 15 in answers: the number on the display; then, of a block given out,
  * moves X, Y, Z in two's complement of 32 bits, feed, radius, mark, length, acceleration, entry,

@@ -186,8 +186,9 @@ static void write_calls(uint8_t bytes[CALLS * FULLERECRU_CALL_BYTES])
     }
 }
 
-/* Replays the trace with the other motors' steps and prints the row that answers each call (its numbers stand in the order that
- * the header gives), the number held and the plan. */
+/* Replays the trace with the other motors' steps and prints the row that answers each call (its
+ * numbers stand in the order that the header gives), the number held and the plan; then with a step
+ * too few. */
 static void run_trace(void)
 {
     uint8_t trace[FULLERECRU_LIMITS_BYTES + CALLS * FULLERECRU_CALL_BYTES];

@@ -1,10 +1,21 @@
 // A file that is named by an argument.
+ghost use mathlib.Core.Path.{_≡_};
 ghost use lib.ListN.{length};
-ghost use Rattle.arguments.specs.Files.{Within};
+ghost use Rattle.arguments.specs.Files.{Within, fileOf};
 use crate::Fault;
 use crate::FileRead;
 use streams::Input;
 use streams::read_from;
+
+// What was read of a file that is open.
+fn file_of(input: Input) -> FileRead
+    ensures { λ r. ⌜ r ≡ fileOf input ⌝ }
+{
+    match input {
+        Input::Bytes(got) => FileRead::Bytes(got),
+        Input::Failed => FileRead::Failed(Fault::Unread),
+    }
+}
 
 // Reads the file of this name until the list is full or the file ends; the bytes stand at the list's beginning. Where it
 // fails, `os::errno` says why: closing a file that is only read changes nothing of that.
@@ -19,8 +30,5 @@ pub fn read_file(name: &[u8], list: &mut [u8]) -> FileRead
     }
     let input = read_from(fd, list);
     libc::close(fd);
-    match input {
-        Input::Bytes(got) => FileRead::Bytes(got),
-        Input::Failed => FileRead::Failed(Fault::Unread),
-    }
+    file_of(input)
 }

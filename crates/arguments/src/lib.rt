@@ -5,8 +5,10 @@ pub mod file;
 mod lines;
 mod words;
 
+ghost use mathlib.Core.Path.{_≡_};
 ghost use Prim.Native.Nat.{_≤_};
 ghost use lib.ListN.{length};
+ghost use Rattle.arguments.specs.Files.{orderOf};
 ghost use Rattle.arguments.specs.Lines.{nameSize};
 ghost use Rattle.arguments.specs.Words.{Fits};
 use file::read_file;
@@ -19,6 +21,10 @@ use lines::say_wrong;
 use lines::smaller;
 use words::read_asked;
 use words::read_word;
+
+// Bytes that the programs lend for the steps: one more than good steps have, so that a longer file shows itself (the law
+// `steps-cut` of `machine`).
+pub const STEPS: usize = machine::torque::STEPS + 1;
 
 // What is left to do for a program.
 pub enum Order {
@@ -63,6 +69,26 @@ pub enum FileRead {
     Failed(Fault),
 }
 
+// What is left to do once the steps' file was read, or was not.
+fn order_of(read: FileRead) -> Order
+    ensures { λ r. ⌜ r ≡ orderOf read ⌝ }
+{
+    match read {
+        FileRead::Bytes(n) => Order::Work(n),
+        FileRead::Failed(_) => Order::Done,
+    }
+}
+
+// Says why a file failed, where it did.
+fn tell(program: &[u8], read: FileRead, name: &mut [u8])
+    requires { ⌜ length (now program) ≤ nameSize ⌝ }
+{
+    match read {
+        FileRead::Bytes(_) => return,
+        FileRead::Failed(fault) => say_failed(program, fault, name),
+    }
+}
+
 // Reads the steps from the file whose name stands at this place, 0 where none is named. Where that fails it is told. The list
 // for the name has one byte more than the longest name that can be opened: what is longer cannot, whatever follows.
 fn read_steps(program: &[u8], place: usize, steps: &mut [u8]) -> Order
@@ -74,13 +100,9 @@ fn read_steps(program: &[u8], place: usize, steps: &mut [u8]) -> Order
     }
     let mut name = [0u8; PATH_MAX];
     let got = read_word(place, &mut name);
-    match read_file(&name[..got], steps) {
-        FileRead::Bytes(n) => Order::Work(n),
-        FileRead::Failed(fault) => {
-            say_failed(program, fault, &mut name[..got]);
-            Order::Done
-        }
-    }
+    let read = read_file(&name[..got], steps);
+    tell(program, read, &mut name[..got]);
+    order_of(read)
 }
 
 // What is left to do for a program of this name, which knows the options `--help` and `--steps FILE` and nothing else: its

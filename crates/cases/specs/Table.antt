@@ -10,9 +10,12 @@ use Rattle.profile.specs.Passes.{planOf}
 use Rattle.machine.specs.Numbers.{CornerCap, none, upTo, lengthOf, accelOf, reachOf, chordCap, blockCap, cornerCap, numbersOf, rampOf}
 use Rattle.machine.specs.Line.{spansOf}
 use Rattle.machine.specs.Labels.{plainBlock}
-use Rattle.machine.specs.Torque.{stepsRefusal, machineRefusal}
+use Rattle.machine.specs.Torque.{stepsRefusal, machineRefusal, torquePercent}
 use Rattle.machine.specs.declared.Block.{Block}
+use Rattle.machine.specs.declared.Numbers.{Numbers}
 use Rattle.machine.specs.declared.Ramp.{Ramp}
+use Rattle.machine.specs.Answers.{numbersAnswer}
+use Rattle.display.specs.Display.{Outcome, given, refused}
 use Rattle.line.specs.Answers.{answerNumber}
 use Rattle.line.specs.Blocks.{Call, add, take, freshLine, lineAnswers}
 use Rattle.cases.specs.Shop.{limitsM, limitsWith, machineM, machineWith, curved, block}
@@ -56,6 +59,14 @@ long = plainBlock (pos 100_000) (pos 0) (pos 0) 300_000 0 0
 
 abbrev loadedNumbers : (loaded : List ℕ) → List ℕ
 loadedNumbers loaded = accelOf (machineWith loaded) long ∷ planOf 0 (spansOf (machineWith loaded) (long ∷ long ∷ []))
+
+-- a block that does not move, and what a call for a block's numbers answers: its refusal, or 0 and the acceleration
+abbrev still : Block
+still = block (pos 0) (pos 0) (pos 0)
+
+abbrev answered : Outcome ℕ Numbers → List ℕ
+answered (given n) = 0 ∷ n .accel ∷ []
+answered (refused number) = number ∷ []
 
 -- peak, up, cruise and down of a line's first block, by the first two numbers of its plan
 abbrev rampNumbers : Ramp → List ℕ
@@ -101,6 +112,12 @@ table =
     ∷ (firstRamp east (north ∷ []) gives 201_000_000 ∷ 502 ∷ 0 ∷ 498 ∷ [])
     -- Two blocks (1000,0,0): plan 0, 400,000,000, 0
     ∷ (plan (east ∷ east ∷ []) gives 0 ∷ 400_000_000 ∷ 0 ∷ [])
+    -- Torque steps: the first and the last speed of each of the eight
+    ∷ (
+    map (torquePercent (machineM .torque))
+    (1 ∷ 125_000 ∷ 125_001 ∷ 250_000 ∷ 250_001 ∷ 375_000 ∷ 375_001 ∷ 500_000 ∷ 500_001 ∷ 625_000 ∷ 625_001 ∷ 750_000 ∷ 750_001 ∷ 875_000 ∷ 875_001 ∷ 1_000_000 ∷ [])
+    gives 100 ∷ 100 ∷ 100 ∷ 100 ∷ 90 ∷ 90 ∷ 80 ∷ 80 ∷ 70 ∷ 70 ∷ 60 ∷ 60 ∷ 50 ∷ 50 ∷ 40 ∷ 40 ∷ []
+    )
     -- Q-3: no steps loaded, eight times 100, 100 down to 30, eight times 1
     ∷ (loadedNumbers [] gives 180_000 ∷ 0 ∷ 36_000_000_000 ∷ 0 ∷ [])
     ∷ (loadedNumbers (replicate 8 100) gives 200_000 ∷ 0 ∷ 40_000_000_000 ∷ 0 ∷ [])
@@ -126,6 +143,12 @@ table =
     ∷ []
     )
     gives replicate 9 14
+    )
+    -- a block's numbers: 1, then 14, then 2
+    ∷ (
+    answered (numbersAnswer (limitsWith 0 2_000) (0 ∷ []) still) ++ answered (numbersAnswer limitsM (0 ∷ []) still) ++ answered (numbersAnswer limitsM (replicate 8 1) still)
+    ++ answered (numbersAnswer limitsM (replicate 8 1) long)
+    gives 1 ∷ 14 ∷ 2 ∷ 0 ∷ 2_000 ∷ []
     )
     ∷ (machineRefusal (limitsWith 0 2_000) (0 ∷ []) ∷ machineRefusal limitsM (0 ∷ []) ∷ machineRefusal limitsM [] ∷ [] gives 1 ∷ 14 ∷ 0 ∷ [])
     -- Add 64 is taken, 65 is refused by 7; after one take it is accepted

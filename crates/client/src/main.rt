@@ -166,6 +166,12 @@ fn demanded(memory: &mut [u64; NUMBERS]) {
         block(0, 1_000, 8),
         &mut list,
     );
+    demands::of_tape(b"", &steps, &mut list);
+    demanded_for_c(memory, &steps, &mut list);
+}
+
+// The same through the functions for C.
+fn demanded_for_c(memory: &mut [u64; NUMBERS], steps: &[u8], list: &mut [u64]) {
     let limits = [
         200_000u64,
         200_000,
@@ -182,14 +188,13 @@ fn demanded(memory: &mut [u64; NUMBERS]) {
     demands::for_c(
         memory,
         &limits,
-        &steps,
+        steps,
         1_000,
         20_000,
         &mut moves,
         &mut numbers,
-        &mut list,
+        list,
     );
-    demands::of_tape(b"", &steps, &mut list);
 }
 
 fn main() {

@@ -44,11 +44,11 @@ pub extern "C" fn fullerecru_plan_tape(
     }
 }
 
-// Runs a trace through a fresh planner with the torque steps of `fullerecru_fresh`: 24 bytes of limits as on tape, then 28 bytes a call, seven
-// words of 32 bits, most significant byte first: kind (0 is a take, any other number an add), moves
-// X, Y, Z by two's complement, µm, feed, µm/s, radius, µm, mark. `answers` gets 15 numbers a call:
-// the number on the display, and of a block given out its moves by two's complement of 32 bits and
-// the numbers of `fullerecru_take`, else zeros. `told` gets the number of blocks held at the end, and
+// Runs a trace through a fresh planner with the torque steps of `fullerecru_fresh`: 24 bytes of limits
+// as on tape, then 28 bytes a call, seven words of 32 bits, most significant byte first: kind (0 is a
+// take, any other number an add), moves X, Y, Z by two's complement, µm, feed, µm/s, radius, µm, mark.
+// `answers` gets 15 numbers a call: the number on the display, and of a block given out its moves by
+// two's complement of 32 bits and the numbers of `fullerecru_take`, else zeros. `told` gets the number of blocks held at the end, and
 // the first numbers of `plan`, one more than that, get the plan, (µm/s)². Refuses by 9 (no whole
 // limits, or a cut call), 1, 14, then by 11 where `answers` has not 15 numbers a call or `plan` not 65,
 // and then all three lists stay as they were.

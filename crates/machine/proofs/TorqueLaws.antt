@@ -10,7 +10,7 @@ use native.Mathlib.Omega.{arith}
 use borrow.Author.Tests.{eq-eqb, ne-eqb, eqb-true, leb-true, le-leb}
 use lib.Dec.{eqb, leb, lit<}
 use lib.ListN.{length, getD, take, drop, drop-of-length-le, List·getD-eq-default}
-use lib.Seq.{drop-cons, take-all}
+use lib.Seq.{drop-cons, length-take-le, take-all}
 use Rattle.display.proofs.Answers.{picked}
 use Rattle.fields.specs.Bytes.{Bytes, numberOf}
 use Rattle.fields.specs.Fields.{partOf}
@@ -156,6 +156,16 @@ steps-refused (p ∷ rest) h = go (eqb (length (p ∷ rest)) stepCount && fallin
     go : (t : Bool) → 0 < cond t 0 14 → _≡_ {A = ℕ} (cond t 0 14) 14
     go true g = absurd (omega arith)
     go false g = refl
+
+-- One byte more than good steps have shows that a list is too long: who looks at no more than nine answers as of the whole list.
+pub steps-cut : (loaded : List ℕ) (n : ℕ) → stepCount < n → stepsRefusal (take n loaded) ≡ stepsRefusal loaded
+steps-cut loaded n h = go (decLt (length loaded) n)
+  where
+    go : Dec (length loaded < n) → stepsRefusal (take n loaded) ≡ stepsRefusal loaded
+    go (yes s) = ap stepsRefusal (take-all n loaded (omega arith))
+    go (no l) =
+        let cut : length (take n loaded) ≡ n = length-take-le n loaded (omega arith) in
+        loaded-uneven (take n loaded) (omega arith) (λ e. omega arith) ∙ sym (loaded-uneven loaded (omega arith) (λ e. omega arith))
 
 -- the built-in steps are such, so those that serve always are
 pub in-force-fit : (loaded : List ℕ) → stepsRefusal loaded ≡ 0 → StepsFit (stepsInForce loaded)

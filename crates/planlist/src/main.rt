@@ -2,6 +2,7 @@
 // document 01's listing, or the one line of its refusal. Where the input cannot be read to
 // its end, or the output does not take the whole text, a line on standard error says so.
 use arguments::Order;
+use arguments::STEPS;
 use arguments::read_order;
 use libc::STDERR_FILENO;
 use libc::STDOUT_FILENO;
@@ -15,8 +16,6 @@ use tapeplan::sheet::SHEET;
 
 // One byte more than the longest tape: a longer input is refused by 10 whatever follows, so no more of it is read.
 const INPUT: usize = MOST_BYTES + 1;
-// One byte more than good torque steps have: a longer file is refused whatever follows.
-const STEPS: usize = machine::torque::STEPS + 1;
 
 // Writes a line to standard error.
 fn say_error(line: &[u8]) {

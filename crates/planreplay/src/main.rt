@@ -2,8 +2,8 @@
 // file that `--steps` names, or the built-in ones, and writes a line for each call: `added`, `refused`
 // with the number, or the nine numbers of a block given out; then the number of blocks held, and the
 // plan. A trace with no whole limits, or limits or steps that do not pass, gets the one line `refused`
-// with number and place 0. A trace that ends inside a call gets such a line
-// in that call's place, with its place counted from 1, and then the two closing lines.
+// with number and place 0. A trace that ends inside a call gets such a line in that call's place, with
+// its place counted from 1, and then the two closing lines.
 ghost use mathlib.Core.Path.{_≡_};
 ghost use Prim.Native.Nat.{_≤_, _<_};
 ghost use lib.ListN.{length};
@@ -11,6 +11,7 @@ ghost use Rattle.replay_text.specs.Texts.{cutPlace};
 ghost use Rattle.replay_text.specs.Turns.{chunkBytes};
 ghost use Rattle.planreplay.specs.Places.{endCalls, turnBytes};
 use arguments::Order;
+use arguments::STEPS;
 use arguments::read_order;
 use display::Checked;
 use display::Refusal;
@@ -29,8 +30,6 @@ use text::Put;
 
 // Bytes of a chunk: as many calls as are run at a time.
 const CHUNK: usize = CALL_BYTES * replay_text::CALLS;
-// One byte more than good torque steps have: a longer file is refused whatever follows.
-const STEPS: usize = machine::torque::STEPS + 1;
 // Reading ends at this many calls, which no input has.
 const MOST_CALLS: u64 = 18_446_744_073_709_551_000;
 

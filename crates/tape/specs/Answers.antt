@@ -108,12 +108,9 @@ headRefusal s = manyIn s then raggedIn s then limitsFault s
 unfoldable pub tapeFault : List ℕ → Fault
 tapeFault s = headRefusal s at 0 else faultFrom 1 (tapeBlocks s)
 
--- its number and its place
+-- its number
 abbrev pub tapeRefusal : List ℕ → ℕ
 tapeRefusal s = tapeFault s .number
-
-abbrev pub tapePlace : List ℕ → ℕ
-tapePlace s = tapeFault s .place
 
 -- what reading its head answers: the limits, or the number
 unfoldable pub readHead : List ℕ → Outcome ℕ Limits

@@ -7,3 +7,4 @@ pub mod LentLaws
 pub mod Plans
 pub mod Sheets
 pub mod Surveys
+mod Cases

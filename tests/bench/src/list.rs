@@ -38,7 +38,7 @@ pub fn report() -> bool {
         line(&format!("planlist, {name}"), "instructions", [count, None]);
         line("", "ns", [Some(per_record(full.time, empty.time)), None]);
         line("", "µs a tape", [Some(full.time as f64 / 1e3), None]);
-        if run(&planlist(), &tape) != listing::planlist(&tape) {
+        if run(&planlist(), &tape) != listing::planlist(&tape, &[]) {
             eprintln!("planlist, {name}: the listings differ");
             agree = false;
         }

@@ -7,7 +7,7 @@ use compare::words::limit_words;
 use reference::generate::machine_m;
 use reference::incremental::Planner;
 use reference::line::{LookAhead, PLACES};
-use reference::machine::Block;
+use reference::machine::{Block, Machine};
 use reference::quick;
 use reference::tape::{Tape, MOST_BLOCKS};
 
@@ -19,6 +19,9 @@ pub enum Side {
     Proved,
     Reference,
 }
+
+/// The list of loaded torque steps: the built-in ones serve.
+const NONE_LOADED: &[u8] = &[];
 
 /// What it does, on machine M.
 #[derive(Clone, Copy, Debug)]
@@ -58,7 +61,7 @@ pub enum Ready {
     FeedProved(Vec<u64>, Vec<Block>),
     FeedReference(Box<Planner>, Vec<Block>),
     PlanProved(Vec<u8>, usize),
-    PlanReference(Tape, usize),
+    PlanReference(Machine, Vec<Block>, usize),
     RootsProved(Vec<u64>),
     RootsReference(Vec<u64>),
 }
@@ -79,10 +82,13 @@ impl Ready {
             }
             (Work::Tape, side) => {
                 let blocks = path.blocks(MOST_BLOCKS);
-                let (tape, runs) = (Tape { limits, blocks }, count.div_ceil(MOST_BLOCKS));
+                let runs = count.div_ceil(MOST_BLOCKS);
                 match side {
-                    Side::Proved => Ready::PlanProved(tape.pack(), runs),
-                    Side::Reference => Ready::PlanReference(tape, runs),
+                    Side::Proved => Ready::PlanProved(Tape { limits, blocks }.pack(), runs),
+                    Side::Reference => {
+                        let machine = Machine::of(&limits, NONE_LOADED).expect("machine M passes");
+                        Ready::PlanReference(machine, blocks, runs)
+                    }
                 }
             }
             (Work::Root, side) => {
@@ -99,7 +105,7 @@ impl Ready {
     pub fn blocks(&self) -> usize {
         match self {
             Ready::FeedProved(_, blocks) | Ready::FeedReference(_, blocks) => blocks.len(),
-            Ready::PlanProved(_, runs) | Ready::PlanReference(_, runs) => runs * MOST_BLOCKS,
+            Ready::PlanProved(_, runs) | Ready::PlanReference(_, _, runs) => runs * MOST_BLOCKS,
             Ready::RootsProved(sums) | Ready::RootsReference(sums) => sums.len(),
         }
     }
@@ -112,7 +118,7 @@ impl Ready {
             Ready::FeedProved(memory, blocks) => feed_proved(memory, blocks),
             Ready::FeedReference(planner, blocks) => feed_reference(planner, blocks),
             Ready::PlanProved(tape, runs) => plan_proved(tape, *runs),
-            Ready::PlanReference(tape, runs) => plan_reference(tape, *runs),
+            Ready::PlanReference(machine, blocks, runs) => plan_reference(machine, blocks, *runs),
             Ready::RootsProved(sums) => roots_proved(sums),
             Ready::RootsReference(sums) => roots_reference(sums),
         }
@@ -128,7 +134,8 @@ fn squares(block: &Block) -> u64 {
 fn filled_memory(blocks: &[Block]) -> Vec<u64> {
     let mut memory = vec![0; NUMBERS];
     let limits = limit_words(&machine_m());
-    let mut number = unsafe { fullerecru_fresh(memory.as_mut_ptr(), limits.as_ptr()) };
+    let (lent, count) = (NONE_LOADED.as_ptr(), NONE_LOADED.len());
+    let mut number = unsafe { fullerecru_fresh(memory.as_mut_ptr(), limits.as_ptr(), lent, count) };
     for block in blocks {
         number |= add(&mut memory, block);
     }
@@ -138,7 +145,8 @@ fn filled_memory(blocks: &[Block]) -> Vec<u64> {
 
 /// The reference's planner that holds the blocks.
 fn filled_planner(blocks: &[Block]) -> Box<Planner> {
-    let mut planner = Box::new(Planner::fresh(&machine_m()).expect("machine M passes"));
+    let mut planner =
+        Box::new(Planner::fresh(&machine_m(), NONE_LOADED).expect("machine M passes"));
     for block in blocks {
         planner.add(block).expect("a block that passes");
     }
@@ -184,9 +192,17 @@ fn plan_proved(tape: &[u8], runs: usize) -> u64 {
     let mut place = [0];
     let mut sum = 0;
     for _ in 0..runs {
-        let lent = (list.as_mut_ptr(), list.len());
-        let at = place.as_mut_ptr();
-        let number = unsafe { fullerecru_plan_tape(tape.as_ptr(), tape.len(), lent.0, lent.1, at) };
+        let number = unsafe {
+            fullerecru_plan_tape(
+                tape.as_ptr(),
+                tape.len(),
+                NONE_LOADED.as_ptr(),
+                NONE_LOADED.len(),
+                list.as_mut_ptr(),
+                list.len(),
+                place.as_mut_ptr(),
+            )
+        };
         assert_eq!(number, 0, "a tape that passes");
         sum += black_box(&list).iter().sum::<u64>();
     }
@@ -195,10 +211,10 @@ fn plan_proved(tape: &[u8], runs: usize) -> u64 {
 
 /// From blocks that are read and checked already to the plan.
 #[inline(never)]
-fn plan_reference(tape: &Tape, runs: usize) -> u64 {
+fn plan_reference(machine: &Machine, blocks: &[Block], runs: usize) -> u64 {
     let mut sum = 0;
     for _ in 0..runs {
-        let plan = quick::plan_of(&black_box(tape).limits, &tape.blocks);
+        let plan = quick::plan_of(black_box(machine), blocks);
         sum += black_box(plan).expect("a plan").iter().sum::<u64>();
     }
     sum

@@ -8,7 +8,12 @@ pub const ROW: usize = 15;
 pub const PLAN: usize = 65;
 
 extern "C" {
-    pub fn fullerecru_fresh(memory: *mut u64, limits: *const u64) -> u64;
+    pub fn fullerecru_fresh(
+        memory: *mut u64,
+        limits: *const u64,
+        steps: *const u8,
+        count: usize,
+    ) -> u64;
     pub fn fullerecru_add(
         memory: *mut u64,
         x: i64,
@@ -42,6 +47,8 @@ extern "C" {
     pub fn fullerecru_plan_tape(
         tape: *const u8,
         count: usize,
+        steps: *const u8,
+        steps_count: usize,
         list: *mut u64,
         junctions: usize,
         place: *mut u64,
@@ -49,6 +56,8 @@ extern "C" {
     pub fn fullerecru_replay(
         trace: *const u8,
         count: usize,
+        steps: *const u8,
+        steps_count: usize,
         answers: *mut u64,
         numbers: usize,
         plan: *mut u64,

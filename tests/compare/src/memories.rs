@@ -1,6 +1,6 @@
 //! Memories for a planner: left by calls, changed in some numbers, and noise.
 
-use reference::generate::{calls, limits};
+use reference::generate::{calls, limits, steps};
 use reference::line::LookAhead;
 use reference::rng::Rng;
 use reference::trace::Call;
@@ -26,9 +26,10 @@ pub fn any_memory(rng: &mut Rng) -> [u64; NUMBERS] {
     }
 }
 
-/// The memory of a planner after some calls.
+/// The memory of a planner, of loaded torque steps or none, after some calls.
 pub fn left_by_calls(rng: &mut Rng) -> [u64; NUMBERS] {
-    let mut planner = Planner::fresh(&limits(rng)).expect("limits that pass");
+    let (limits, steps) = (limits(rng), steps(rng));
+    let mut planner = Planner::fresh(&limits, &steps).expect("limits and steps that pass");
     let count = rng.spread(0, 150) as usize;
     for call in calls(rng, count) {
         let _ = match call {

@@ -2,9 +2,11 @@
 
 use std::env;
 use std::ffi::OsStr;
+use std::fs;
 use std::io::{Read, Write};
-use std::path::PathBuf;
-use std::process::{Child, Command, ExitStatus, Stdio};
+use std::path::{Path, PathBuf};
+use std::process::{self, Child, Command, ExitStatus, Stdio};
+use std::sync::atomic::{AtomicU64, Ordering};
 use std::thread::{self, JoinHandle};
 use std::time::{Duration, Instant};
 
@@ -125,7 +127,12 @@ fn feed(child: &mut Child, input: &[u8], piece: usize) -> JoinHandle<usize> {
 
 /// What the program writes for an input that comes in pieces of some bytes.
 pub fn run_in_pieces(program: &PathBuf, input: &[u8], piece: usize) -> String {
-    let mut child = start(program, Stdio::piped(), Stdio::piped());
+    run_with(program, &[], input, piece)
+}
+
+/// What the program, started with arguments, writes for such an input.
+pub fn run_with(program: &PathBuf, words: &[&OsStr], input: &[u8], piece: usize) -> String {
+    let mut child = start_with(program, words, Stdio::piped(), Stdio::piped());
     let writer = feed(&mut child, input, piece);
     let text = text_of(child);
     writer.join().expect("no panic");
@@ -145,4 +152,49 @@ pub fn complaint(program: &PathBuf, input: &[u8], output: Stdio) -> String {
 /// What the program writes for an input.
 pub fn run(program: &PathBuf, input: &[u8]) -> String {
     run_in_pieces(program, input, usize::MAX)
+}
+
+/// The arguments by which a program loads a file of torque steps.
+pub fn steps_words(file: &Path) -> [&OsStr; 2] {
+    [OsStr::new("--steps"), file.as_os_str()]
+}
+
+/// A file of torque steps, which is there as long as this value.
+struct StepsFile {
+    path: PathBuf,
+}
+
+impl StepsFile {
+    /// A new file of these bytes.
+    fn of(steps: &[u8]) -> StepsFile {
+        static MADE: AtomicU64 = AtomicU64::new(0);
+        let number = MADE.fetch_add(1, Ordering::Relaxed);
+        let name = format!("compare.{}.{number}.steps", process::id());
+        let path = env::temp_dir().join(name);
+        fs::write(&path, steps).expect("a place for a file of steps");
+        StepsFile { path }
+    }
+}
+
+impl Drop for StepsFile {
+    fn drop(&mut self) {
+        let _ = fs::remove_file(&self.path);
+    }
+}
+
+/// What the program writes for an input in pieces of some bytes when it loads a
+/// file of these steps, which is empty where they are.
+pub fn run_with_steps(program: &PathBuf, steps: &[u8], input: &[u8], piece: usize) -> String {
+    let file = StepsFile::of(steps);
+    run_with(program, &steps_words(&file.path), input, piece)
+}
+
+/// What the program writes for an input under loaded steps. Where there are none
+/// it is started without a file at one seed and with an empty one at the next.
+pub fn run_under(seed: u64, program: &PathBuf, steps: &[u8], input: &[u8]) -> String {
+    if steps.is_empty() && seed.is_multiple_of(2) {
+        run(program, input)
+    } else {
+        run_with_steps(program, steps, input, usize::MAX)
+    }
 }

@@ -111,15 +111,26 @@ pub fn write_record(block: &Block, bytes: &mut [u8]) -> Result<(), Refusal> {
     answer_of(number)
 }
 
-/// The plan of a whole tape in the list. The place is written by every call.
-pub fn plan_tape(tape: &[u8], list: &mut [u64]) -> Result<(), Fault> {
+/// The plan of a whole tape under loaded torque steps, none if the list of them
+/// is empty, in the list. The place is written by every call.
+pub fn plan_tape(tape: &[u8], steps: &[u8], list: &mut [u64]) -> Result<(), Fault> {
     let mut source = Guarded::new(tape, BYTE_GUARD);
+    let mut loaded = Guarded::new(steps, BYTE_GUARD);
     let mut lent = Guarded::new(list, GUARD);
     let mut place = numbers(1);
-    let (count, junctions) = (tape.len(), list.len());
-    let number =
-        unsafe { fullerecru_plan_tape(source.lend(), count, lent.lend(), junctions, place.lend()) };
+    let number = unsafe {
+        fullerecru_plan_tape(
+            source.lend(),
+            tape.len(),
+            loaded.lend(),
+            steps.len(),
+            lent.lend(),
+            list.len(),
+            place.lend(),
+        )
+    };
     source.confirm_only_read(tape);
+    loaded.confirm_only_read(steps);
     confirm(number, list, &lent);
     place.confirm();
     list.copy_from_slice(lent.list());
@@ -129,9 +140,16 @@ pub fn plan_tape(tape: &[u8], list: &mut [u64]) -> Result<(), Fault> {
     Ok(())
 }
 
-/// A trace run: rows in `answers`, plan in `plan`; gives the number told.
-pub fn replay(trace: &[u8], answers: &mut [u64], plan: &mut [u64]) -> Result<u64, Refusal> {
+/// A trace run under loaded torque steps, none if the list of them is empty:
+/// rows in `answers`, plan in `plan`; gives the number told.
+pub fn replay(
+    trace: &[u8],
+    steps: &[u8],
+    answers: &mut [u64],
+    plan: &mut [u64],
+) -> Result<u64, Refusal> {
     let mut source = Guarded::new(trace, BYTE_GUARD);
+    let mut loaded = Guarded::new(steps, BYTE_GUARD);
     let mut rows = Guarded::new(answers, GUARD);
     let mut shown = Guarded::new(plan, GUARD);
     let mut told = numbers(1);
@@ -140,6 +158,8 @@ pub fn replay(trace: &[u8], answers: &mut [u64], plan: &mut [u64]) -> Result<u64
         fullerecru_replay(
             source.lend(),
             trace.len(),
+            loaded.lend(),
+            steps.len(),
             rows.lend(),
             answers.len(),
             shown.lend(),
@@ -148,6 +168,7 @@ pub fn replay(trace: &[u8], answers: &mut [u64], plan: &mut [u64]) -> Result<u64
         )
     };
     source.confirm_only_read(trace);
+    loaded.confirm_only_read(steps);
     confirm(number, answers, &rows);
     confirm(number, plan, &shown);
     confirm(number, &before, &told);
@@ -175,13 +196,16 @@ impl Planner {
         self.memory.list()
     }
 
-    /// A fresh planner on the memory, whatever it holds.
-    pub fn freshen(&mut self, limits: &Limits) -> Result<(), Refusal> {
+    /// A fresh planner with loaded torque steps, none if the list of them is
+    /// empty, on the memory, whatever it holds.
+    pub fn freshen(&mut self, limits: &Limits, steps: &[u8]) -> Result<(), Refusal> {
         let words = limit_words(limits);
         let mut source = Guarded::new(&words, GUARD);
-        let lent = source.lend();
-        let number = self.call(|memory| unsafe { fullerecru_fresh(memory, lent) });
+        let mut loaded = Guarded::new(steps, BYTE_GUARD);
+        let (lent, bytes, count) = (source.lend(), loaded.lend(), steps.len());
+        let number = self.call(|memory| unsafe { fullerecru_fresh(memory, lent, bytes, count) });
         source.confirm_only_read(&words);
+        loaded.confirm_only_read(steps);
         answer_of(number)
     }
 
@@ -204,9 +228,9 @@ impl Planner {
 }
 
 impl LookAhead for Planner {
-    fn fresh(limits: &Limits) -> Result<Planner, Refusal> {
+    fn fresh(limits: &Limits, steps: &[u8]) -> Result<Planner, Refusal> {
         let mut planner = Planner::of_memory(&[FILLER.get(); NUMBERS]);
-        planner.freshen(limits).map(|()| planner)
+        planner.freshen(limits, steps).map(|()| planner)
     }
 
     fn add(&mut self, block: &Block) -> Result<(), Refusal> {

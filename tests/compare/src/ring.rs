@@ -6,12 +6,14 @@
 //! crates/line/specs/Ring.antt (what a call answers and
 //! leaves), crates/planner/specs/View.antt (where each number stands) and
 //! Calls.antt (a fresh planner), crates/profile/specs/Passes.antt (one step of
-//! each pass), crates/fields/specs/Signed.antt (moves as 21 bits), and for
-//! `numbers` crates/machine/specs/Numbers.antt. Functions have the definitions'
-//! names. The definitions are of whole numbers of any size: sums and products
-//! are made in 128 bits here, which none of them passes.
+//! each pass), crates/fields/specs/Signed.antt (moves as 21 bits), for `numbers`
+//! crates/machine/specs/Numbers.antt, and for `torque` Torque.antt there.
+//! Functions have the definitions' names. The definitions are of whole numbers
+//! of any size: sums and products are made in 128 bits here, which none of them
+//! passes.
 
 mod numbers;
+mod torque;
 
 use reference::machine::{check_block, check_limits, Block, Given, Limits};
 use reference::refusal::Refusal;
@@ -19,6 +21,7 @@ use reference::refusal::Refusal;
 use crate::library::NUMBERS;
 use crate::words::{limit_words, limits_of};
 use numbers::{corner_under, numbers_of, ramp_between, Machine, Numbers};
+use torque::{steps_refusal, torque_of};
 
 /// Numbers of the head and of each place; places, and blocks held at most.
 pub const HEAD: usize = 13;
@@ -31,10 +34,6 @@ pub const FIRST: usize = 9;
 pub const COUNT: usize = 10;
 pub const COMMITTED: usize = 11;
 pub const TORQUE: usize = 12;
-
-/// The torque of a fresh planner: 100, 100, 90, 80, 70, 60, 50 and 40 percent, a
-/// byte for each, the first most significant.
-pub const BUILT_IN_TORQUE: u64 = u64::from_be_bytes([100, 100, 90, 80, 70, 60, 50, 40]);
 
 /// Where a place has its numbers; the moves X, Y, Z come first.
 const FEED: usize = 3;
@@ -67,12 +66,14 @@ impl Ring {
         &self.memory
     }
 
-    /// A fresh planner, or refusal 1. The places hold what they held.
-    pub fn freshen(&mut self, limits: &Limits) -> Result<(), Refusal> {
+    /// A fresh planner with loaded torque steps, none if the list of them is
+    /// empty, or refusal 1, then 14. The places hold what they held.
+    pub fn freshen(&mut self, limits: &Limits, steps: &[u8]) -> Result<(), Refusal> {
         check_limits(limits)?;
+        steps_refusal(steps)?;
         self.memory[..FIRST].copy_from_slice(&limit_words(limits));
         self.memory[FIRST..TORQUE].fill(0);
-        self.memory[TORQUE] = BUILT_IN_TORQUE;
+        self.memory[TORQUE] = torque_of(steps);
         Ok(())
     }
 

@@ -28,15 +28,20 @@ fn row(line: &mut Line, call: &Call) -> [u64; ROW] {
     row
 }
 
-/// Runs the trace: 9, 1, 11, then the calls in turn, each into its row of
-/// `answers`; the plan at the end goes into the first numbers of `plan`. Gives
-/// the number told.
-pub fn replay(trace: &[u8], answers: &mut [u64], plan: &mut [u64]) -> Result<u64, Refusal> {
+/// Runs the trace under loaded torque steps: 9, 1, 14, 11, then the calls in
+/// turn, each into its row of `answers`; the plan at the end goes into the first
+/// numbers of `plan`. Gives the number told.
+pub fn replay(
+    trace: &[u8],
+    steps: &[u8],
+    answers: &mut [u64],
+    plan: &mut [u64],
+) -> Result<u64, Refusal> {
     let calls = trace.get(LIMITS_BYTES..).ok_or(Refusal::Ragged)?;
     if !calls.len().is_multiple_of(CALL_BYTES) {
         return Err(Refusal::Ragged);
     }
-    let mut line = Line::fresh(&read_limits(trace)?)?;
+    let mut line = Line::fresh(&read_limits(trace)?, steps)?;
     if answers.len() != rows(trace) || plan.len() != PLAN {
         return Err(Refusal::List);
     }

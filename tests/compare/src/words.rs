@@ -1,31 +1,35 @@
-//! Limits, blocks and blocks given out as the lists of numbers that C lends.
+//! Limits, blocks and blocks given out as the lists of numbers that C lends, and
+//! lists of torque steps.
 
+use reference::generate::{faulty_steps, steps};
 use reference::machine::{Block, Given, Limits, Ramp};
 use reference::refusal::Refusal;
 use reference::rng::Rng;
 
-/// Refusals in the order of their numbers, from 1.
-const REFUSALS: [Refusal; 11] = [
-    Refusal::Limits,
-    Refusal::Still,
-    Refusal::Long,
-    Refusal::Feed,
-    Refusal::Radius,
-    Refusal::Mark,
-    Refusal::Full,
-    Refusal::Empty,
-    Refusal::Ragged,
-    Refusal::Many,
-    Refusal::List,
+/// Refusals with their numbers on the display.
+const REFUSALS: [(u64, Refusal); 12] = [
+    (1, Refusal::Limits),
+    (2, Refusal::Still),
+    (3, Refusal::Long),
+    (4, Refusal::Feed),
+    (5, Refusal::Radius),
+    (6, Refusal::Mark),
+    (7, Refusal::Full),
+    (8, Refusal::Empty),
+    (9, Refusal::Ragged),
+    (10, Refusal::Many),
+    (11, Refusal::List),
+    (14, Refusal::Steps),
 ];
 
 /// What a number on the display says: 0 is accepted.
 pub fn answer_of(number: u64) -> Result<(), Refusal> {
-    match number {
-        0 => Ok(()),
-        1..=11 => Err(REFUSALS[number as usize - 1]),
-        _ => panic!("{number} is no number on the display"),
+    if number == 0 {
+        return Ok(());
     }
+    let known = REFUSALS.iter().find(|(own, _)| *own == number);
+    let (_, refusal) = known.unwrap_or_else(|| panic!("{number} is no number on the display"));
+    Err(*refusal)
 }
 
 /// Accelerations X, Y, Z, speeds X, Y, Z, jump, chord tolerance, tick.
@@ -59,6 +63,16 @@ pub fn limits_of(words: &[u64]) -> Limits {
 /// Limits of words of any size, mostly far outside their ranges.
 pub fn any_limits(rng: &mut Rng) -> Limits {
     limits_of(&[(); 9].map(|_| any_word(rng)))
+}
+
+/// Torque steps that pass, loaded in about a third, and once in eight times such
+/// that do not.
+pub fn some_steps(rng: &mut Rng) -> Vec<u8> {
+    if rng.once_in(8) {
+        faulty_steps(rng)
+    } else {
+        steps(rng)
+    }
 }
 
 /// A block of words of any size.

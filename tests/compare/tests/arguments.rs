@@ -47,13 +47,13 @@ fn tools() -> [Tool; 2] {
             name: "planlist",
             program: planlist(),
             input: "tapes/right-angle.tape",
-            text: listing::planlist,
+            text: |tape| listing::planlist(tape, &[]),
         },
         Tool {
             name: "planreplay",
             program: planreplay(),
             input: "traces/shop-traffic.trace",
-            text: listing::planreplay,
+            text: |trace| listing::planreplay(trace, &[]),
         },
     ]
 }

@@ -60,7 +60,7 @@ fn planlist_reading() -> Reading {
         ],
         room: |got| MOST_BYTES + 1 - got,
         lines: |_| 0,
-        text: listing::planlist(&input),
+        text: listing::planlist(&input, &[]),
         input,
     }
 }
@@ -90,7 +90,7 @@ fn planreplay_reading() -> Reading {
             Some(calls) => CHUNK_BYTES - calls % CHUNK_BYTES,
         },
         lines: |got| got.saturating_sub(LIMITS_BYTES) / CHUNK_BYTES * CHUNK_CALLS,
-        text: listing::planreplay(&input),
+        text: listing::planreplay(&input, &[]),
         input,
     }
 }

@@ -8,7 +8,7 @@ use compare::programs::{planlist, run};
 use compare::proved::Planner;
 use compare::{report, seeds, Trying};
 use reference::circle::middle_is_within;
-use reference::generate::{machine_m, tight_path, tight_radius, with_chord};
+use reference::generate::{machine_m, steps, tight_path, tight_radius, with_chord};
 use reference::line::LookAhead;
 use reference::machine::{Block, Limits};
 use reference::rng::Rng;
@@ -35,7 +35,7 @@ fn pair(radius: u64) -> Vec<Block> {
 
 /// The squared speed between the two, (µm/s)², in the planner's plan.
 fn between(limits: &Limits, radius: u64) -> u64 {
-    let mut planner = Planner::fresh(limits).expect("limits that pass");
+    let mut planner = Planner::fresh(limits, &[]).expect("limits that pass");
     for block in pair(radius) {
         planner.add(&block).expect("a block that passes");
     }
@@ -127,8 +127,9 @@ fn paths_over_tight_curves_have_the_same_plan() {
         let mut rng = Rng::new(seed);
         let count = rng.within(1, 64) as usize;
         let (limits, blocks) = tight_path(&mut rng, count);
-        compare_planners(seed, &limits, &blocks);
-        compare_tapes(seed, &limits, &blocks);
+        let steps = steps(&mut rng);
+        compare_planners(seed, &limits, &steps, &blocks);
+        compare_tapes(seed, &limits, &steps, &blocks);
     }
     report(2_000, "paths over tight curves");
 }

@@ -10,7 +10,7 @@ use std::collections::BTreeSet;
 use compare::library::{NUMBERS, PLAN, ROW};
 use compare::proved::{self, Planner};
 use compare::{first_seed, report, seeds, Trying};
-use reference::generate::{block, limits, machine_m, straight_steps};
+use reference::generate::{block, limits, machine_m, steps, straight_steps};
 use reference::line::LookAhead;
 use reference::machine::{Block, Limits};
 use reference::refusal::Refusal;
@@ -66,32 +66,33 @@ fn number<T>(answer: Result<T, Refusal>) -> u64 {
     answer.map_or_else(|refusal| refusal.number(), |_| 0)
 }
 
-/// The number and the place of a tape, planned in a list of a length.
-fn tape_number(bytes: &[u8], junctions: usize) -> (u64, u64) {
+/// The number and the place of a tape, planned under steps in a list of a
+/// length.
+fn tape_number(bytes: &[u8], steps: &[u8], junctions: usize) -> (u64, u64) {
     let mut list = vec![77; junctions];
-    match proved::plan_tape(bytes, &mut list) {
+    match proved::plan_tape(bytes, steps, &mut list) {
         Ok(()) => (0, 0),
         Err(fault) => (fault.refusal.number(), fault.place),
     }
 }
 
-/// The number of a trace, and those of its rows.
-fn trace_numbers(bytes: &[u8], numbers: usize, junctions: usize) -> (u64, Vec<u64>) {
+/// The number of a trace run under steps, and those of its rows.
+fn trace_numbers(bytes: &[u8], steps: &[u8], numbers: usize, junctions: usize) -> (u64, Vec<u64>) {
     let mut rows = vec![77; numbers];
-    let answer = proved::replay(bytes, &mut rows, &mut vec![88; junctions]);
+    let answer = proved::replay(bytes, steps, &mut rows, &mut vec![88; junctions]);
     (number(answer), rows.iter().step_by(ROW).copied().collect())
 }
 
-/// The numbers that the functions which take limits give: fresh, a writer, a
-/// reader, a tape and a trace.
-fn limits_numbers(limits: &Limits) -> [u64; 5] {
+/// The numbers that the functions which take limits give, with steps where they
+/// take these too: fresh, a writer, a reader, a tape and a trace.
+fn limits_numbers(limits: &Limits, steps: &[u8]) -> [u64; 5] {
     let bytes = pack_limits(limits, 0);
     [
-        number(Planner::fresh(limits)),
+        number(Planner::fresh(limits, steps)),
         number(proved::write_limits(limits, &mut [7; LIMITS_BYTES])),
         number(proved::read_limits(&bytes)),
-        tape_number(&bytes, 1).0,
-        trace_numbers(&bytes, 0, PLAN).0,
+        tape_number(&bytes, steps, 1).0,
+        trace_numbers(&bytes, steps, 0, PLAN).0,
     ]
 }
 
@@ -104,9 +105,10 @@ fn each_limit_is_accepted_at_its_ends_and_refused_beyond() {
         for (field, low, high) in LIMITS {
             let passing = [(low, 0), (low + 1, 0), (high - 1, 0), (high, 0)];
             for (value, expected) in passing.into_iter().chain([(low - 1, 1), (high + 1, 1)]) {
-                let mut limits = limits(&mut rng);
+                let (mut limits, steps) = (limits(&mut rng), steps(&mut rng));
                 *field(&mut limits) = value;
-                assert_eq!(limits_numbers(&limits), [expected; 5], "{limits:?}");
+                let numbers = limits_numbers(&limits, &steps);
+                assert_eq!(numbers, [expected; 5], "{limits:?} {steps:?}");
                 count += 5;
             }
         }
@@ -116,17 +118,17 @@ fn each_limit_is_accepted_at_its_ends_and_refused_beyond() {
 
 /// The number that a block gives to an add, a writer and a trace; and to a
 /// reader and a tape, which have no mark that is too large.
-fn block_numbers(block: &Block) -> ([u64; 3], Option<[u64; 2]>) {
-    let mut planner = Planner::fresh(&machine_m()).expect("machine M passes");
+fn block_numbers(block: &Block, steps: &[u8]) -> ([u64; 3], Option<[u64; 2]>) {
+    let mut planner = Planner::fresh(&machine_m(), steps).expect("steps that pass");
     let record = pack_record(block);
     let tape = [pack_limits(&machine_m(), 0), record.clone()].concat();
     let trace = pack_trace(&machine_m(), &[Call::Add(*block)]);
     let numbers = [
         number(planner.add(block)),
         number(proved::write_record(block, &mut [7; RECORD_BYTES])),
-        trace_numbers(&trace, ROW, PLAN).1[0],
+        trace_numbers(&trace, steps, ROW, PLAN).1[0],
     ];
-    let (of_tape, place) = tape_number(&tape, 2);
+    let (of_tape, place) = tape_number(&tape, steps, 2);
     assert_eq!(place, u64::from(of_tape != 0), "{block:?}");
     let on_tape = [number(proved::read_record(&record)), of_tape];
     (numbers, (block.mark < 1 << 21).then_some(on_tape))
@@ -143,7 +145,7 @@ fn each_field_is_accepted_at_its_ends_and_refused_beyond() {
             for (value, expected) in within.iter().map(|value| (*value, 0)).chain(beyond) {
                 let mut block = block(&mut rng);
                 set(&mut block, value);
-                let (numbers, on_tape) = block_numbers(&block);
+                let (numbers, on_tape) = block_numbers(&block, &steps(&mut rng));
                 assert_eq!(numbers, [expected; 3], "{block:?}");
                 let on_tape = on_tape.unwrap_or([expected; 2]);
                 assert_eq!(on_tape, [expected; 2], "{block:?}");
@@ -154,7 +156,8 @@ fn each_field_is_accepted_at_its_ends_and_refused_beyond() {
             moves: [0; 3],
             ..block(&mut rng)
         };
-        assert_eq!(block_numbers(&still), ([2; 3], Some([2; 2])), "{still:?}");
+        let numbers = block_numbers(&still, &steps(&mut rng));
+        assert_eq!(numbers, ([2; 3], Some([2; 2])), "{still:?}");
     }
     report(count, "fields at their ends");
 }
@@ -171,7 +174,8 @@ fn fields_come_back_as_they_were() {
             for value in within {
                 let mut block = block(&mut rng);
                 set(&mut block, *value);
-                let mut planner = Planner::fresh(&limits(&mut rng)).expect("limits that pass");
+                let (limits, steps) = (limits(&mut rng), steps(&mut rng));
+                let mut planner = Planner::fresh(&limits, &steps).expect("both pass");
                 planner.add(&block).expect("a block that passes");
                 let given = planner.take().expect("a block held");
                 assert_eq!(given.block, block, "seed {seed}");
@@ -186,10 +190,11 @@ fn fields_come_back_as_they_were() {
 }
 
 /// The constants of the header, which is written by hand.
-const HEADER_NUMBERS: [(&str, u64); 25] = [
+const HEADER_NUMBERS: [(&str, u64); 27] = [
     ("NUMBERS", NUMBERS as u64),
     ("PLACES", 64),
     ("LIMITS", 9),
+    ("STEPS", 8),
     ("MOVES", 3),
     ("GIVEN", 11),
     ("RECORD", 3),
@@ -212,6 +217,7 @@ const HEADER_NUMBERS: [(&str, u64); 25] = [
     ("REFUSED_RAGGED", 9),
     ("REFUSED_MANY", 10),
     ("REFUSED_LIST", 11),
+    ("REFUSED_STEPS", 14),
 ];
 
 /// The functions that a text declares, by their names.
@@ -241,7 +247,7 @@ fn the_header_has_these_numbers_and_functions() {
     let called = functions(include_str!("../src/library.rs"));
     assert_eq!(functions(header), called);
     assert_eq!(called.len(), 11);
-    report(25 + 11, "constants and functions of the header");
+    report(27 + 11, "constants and functions of the header");
 }
 
 /// The numbers of a call for each of three lengths of what it is lent.
@@ -253,7 +259,7 @@ fn by_length<T>(lengths: [usize; 3], call: impl Fn(usize) -> Result<T, Refusal>)
 #[test]
 fn empty_and_full_planners_give_their_numbers() {
     let blocks = straight_steps(first_seed(), 65);
-    let mut planner = Planner::fresh(&machine_m()).expect("machine M passes");
+    let mut planner = Planner::fresh(&machine_m(), &[]).expect("machine M passes");
     let shown = |planner: &Planner, n| planner.shown(&mut vec![7; n]);
     assert_eq!(number(planner.take()), 8);
     assert_eq!(by_length([0, 1, 2], |n| shown(&planner, n)), [11, 0, 11]);
@@ -292,24 +298,30 @@ fn readers_and_writers_give_their_numbers() {
     report(6 * 3, "numbers of readers and writers");
 }
 
-/// The order of a tape's checks and of a trace's: 10, 9, 1, each record, 11;
-/// and 9, 1, 11.
+/// The order of a tape's checks, of a trace's and of a fresh planner's: 10, 9, 1,
+/// 14, each record, 11; 9, 1, 14, 11; and 1, 14.
 #[test]
-fn tapes_and_traces_give_their_numbers() {
+fn tapes_traces_and_planners_give_their_numbers() {
     let (good, bad) = (pack_limits(&machine_m(), 0), pack_limits(&machine_m(), 1));
     let record = pack_record(&straight_steps(first_seed(), 1)[0]);
     let still = [0; RECORD_BYTES];
     let whole = |limits: &[u8], last: &[u8]| [limits, &record, &record, last].concat();
     let long = |limits: &[u8]| [limits, &still.repeat(2_049)].concat();
-    assert_eq!(tape_number(&long(&bad), 0), (10, 0));
-    assert_eq!(tape_number(&long(&bad)[..32_792], 0), (1, 0));
-    assert_eq!(tape_number(&long(&bad)[..32_791], 0), (9, 0));
-    assert_eq!(tape_number(&long(&good)[..32_792], 0), (2, 1));
-    assert_eq!(tape_number(&whole(&bad, &still[1..]), 0), (9, 0));
-    assert_eq!(tape_number(&whole(&bad, &still), 0), (1, 0));
-    assert_eq!(tape_number(&whole(&good, &still), 0), (2, 3));
-    assert_eq!(tape_number(&whole(&good, &record), 3), (11, 0));
-    assert_eq!(tape_number(&whole(&good, &record), 4), (0, 0));
+    // eight steps that pass, and one too few
+    let (fit, few) = (&[100, 90, 80, 70, 60, 50, 40, 30][..], &[100; 7][..]);
+    assert_eq!(tape_number(&long(&bad), few, 0), (10, 0));
+    assert_eq!(tape_number(&long(&bad)[..32_792], few, 0), (1, 0));
+    assert_eq!(tape_number(&long(&bad)[..32_791], few, 0), (9, 0));
+    assert_eq!(tape_number(&long(&good)[..32_792], few, 0), (14, 0));
+    assert_eq!(tape_number(&long(&good)[..32_792], fit, 0), (2, 1));
+    assert_eq!(tape_number(&whole(&bad, &still[1..]), few, 0), (9, 0));
+    assert_eq!(tape_number(&whole(&bad, &still), few, 0), (1, 0));
+    assert_eq!(tape_number(&whole(&good, &still), few, 0), (14, 0));
+    assert_eq!(tape_number(&whole(&good, &still), &[], 0), (2, 3));
+    assert_eq!(tape_number(&whole(&good, &record), few, 3), (14, 0));
+    assert_eq!(tape_number(&whole(&good, &record), fit, 3), (11, 0));
+    assert_eq!(tape_number(&whole(&good, &record), fit, 4), (0, 0));
+    assert_eq!(tape_number(&whole(&good, &record), &[], 4), (0, 0));
     let blocks = straight_steps(first_seed(), 65);
     let calls: Vec<Call> = blocks
         .iter()
@@ -319,11 +331,19 @@ fn tapes_and_traces_give_their_numbers() {
     let trace = pack_trace(&machine_m(), &calls);
     let faulty = [&bad, &trace[LIMITS_BYTES..]].concat();
     let rows = 130 * ROW;
-    assert_eq!(trace_numbers(&faulty[1..], 0, 0).0, 9);
-    assert_eq!(trace_numbers(&faulty, 0, 0).0, 1);
-    assert_eq!(trace_numbers(&trace, rows - ROW, PLAN).0, 11);
-    assert_eq!(trace_numbers(&trace, rows, PLAN - 1).0, 11);
+    assert_eq!(trace_numbers(&faulty[1..], few, 0, 0).0, 9);
+    assert_eq!(trace_numbers(&faulty, few, 0, 0).0, 1);
+    assert_eq!(trace_numbers(&trace, few, rows - ROW, PLAN).0, 14);
+    assert_eq!(trace_numbers(&trace, fit, rows - ROW, PLAN).0, 11);
+    assert_eq!(trace_numbers(&trace, &[], rows, PLAN - 1).0, 11);
     let expected = [vec![0; 64], vec![7], vec![0; 64], vec![8]].concat();
-    assert_eq!(trace_numbers(&trace, rows, PLAN), (0, expected));
-    report(9 + 5, "numbers of tapes and traces");
+    assert_eq!(trace_numbers(&trace, fit, rows, PLAN), (0, expected));
+    let slow = Limits {
+        tick: 99,
+        ..machine_m()
+    };
+    assert_eq!(number(Planner::fresh(&slow, few)), 1);
+    assert_eq!(number(Planner::fresh(&machine_m(), few)), 14);
+    assert_eq!(number(Planner::fresh(&machine_m(), fit)), 0);
+    report(13 + 6 + 3, "numbers of tapes, traces and fresh planners");
 }

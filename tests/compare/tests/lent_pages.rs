@@ -11,11 +11,13 @@ use compare::guarded::{lend_at, Side, SIDES};
 use compare::library::{PLAN, ROW};
 use compare::proved::{self, Planner};
 use compare::traces::{self, rows};
+use compare::words::some_steps;
 use compare::{hex, report, same, seeds, Trying};
 use reference::generate::*;
 use reference::line::{Line, LookAhead, PLACES};
-use reference::machine::{Block, Limits};
+use reference::machine::{Block, Limits, Machine};
 use reference::quick;
+use reference::refusal::Refusal;
 use reference::rng::Rng;
 use reference::tape::{self, pack_limits, pack_record, Tape, LIMITS_BYTES, MOST_BLOCKS};
 use reference::trace::{pack_trace, CALL_BYTES};
@@ -48,11 +50,13 @@ fn compare_held(seed: u64, proved: &Planner, line: &Line, side: Side) {
 #[test]
 fn a_planner_stays_in_its_memory() {
     at_both_sides(|seed, rng, side| {
-        let limits = limits(rng);
-        let mut proved = Planner::fresh(&limits).expect("limits that pass");
-        let mut line = Line::fresh(&limits).expect("limits that pass");
-        let refused = proved.freshen(&faulty_limits(rng));
-        assert!(refused.is_err(), "{side:?}");
+        let (limits, steps) = (limits(rng), loaded_steps(rng));
+        let mut proved = Planner::fresh(&limits, &steps).expect("limits and steps that pass");
+        let mut line = Line::fresh(&limits, &steps).expect("limits and steps that pass");
+        let refused = proved.freshen(&faulty_limits(rng), &steps);
+        assert_eq!(refused, Err(Refusal::Limits), "{side:?}");
+        let refused = proved.freshen(&limits, &faulty_steps(rng));
+        assert_eq!(refused, Err(Refusal::Steps), "{side:?}");
         compare_held(seed, &proved, &line, side);
         for block in path(rng, PLACES + 1) {
             let faults = rng.pick(&BLOCK_FAULTS);
@@ -131,11 +135,11 @@ fn a_tape_of_each_length_stays_in_its_bytes_and_list() {
         let blocks = path(rng, 12);
         let whole = Tape { limits, blocks }.pack();
         for (length, n) in (0..=whole.len()).flat_map(|length| (0..=14).map(move |n| (length, n))) {
-            let bytes = &whole[..length];
+            let (bytes, steps) = (&whole[..length], some_steps(rng));
             let (mut plan, mut expected) = (vec![77; n], vec![77; n]);
-            let found = proved::plan_tape(bytes, &mut plan);
-            let known = tape::plan_tape(bytes, &mut expected);
-            let input = || format!("{side:?} {} in {n}", hex(bytes));
+            let found = proved::plan_tape(bytes, &steps, &mut plan);
+            let known = tape::plan_tape(bytes, &steps, &mut expected);
+            let input = || format!("{side:?} {} under {} in {n}", hex(bytes), hex(&steps));
             same(seed, input, (found, plan), (known, expected));
         }
     });
@@ -157,27 +161,35 @@ fn a_tape_of_each_number_of_records_stays_in_its_bytes_and_list() {
         }
         .pack();
         for records in 0..=MOST_BLOCKS {
+            let steps = steps(rng);
+            let machine = Machine::of(&limits, &steps).expect("limits and steps that pass");
             let mut plan = vec![77; records + 1];
             let bytes = &whole[..LIMITS_BYTES + 16 * records];
-            let found = proved::plan_tape(bytes, &mut plan);
-            let known = quick::plan_of(&limits, &blocks[..records]);
-            let input = || format!("{side:?} {}", hex(bytes));
+            let found = proved::plan_tape(bytes, &steps, &mut plan);
+            let known = quick::plan_of(&machine, &blocks[..records]);
+            let input = || format!("{side:?} {} under {}", hex(bytes), hex(&steps));
             same(seed, input, (found, Some(plan)), (Ok(()), known));
         }
-        let many = proved::plan_tape(&whole, &mut [77; 3]);
+        let many = proved::plan_tape(&whole, &[], &mut [77; 3]);
         let number = many.map_or_else(|fault| fault.refusal.number(), |()| 0);
         assert_eq!(number, 10, "{side:?}");
     });
     report(2 * 2_050, "tapes of 0 to 2049 records");
 }
 
-/// Compares a trace in lists of these lengths.
-fn compare_trace(seed: u64, side: Side, trace: &[u8], [numbers, junctions]: [usize; 2]) {
+/// Compares a trace under the steps in lists of these lengths.
+fn compare_trace(
+    seed: u64,
+    side: Side,
+    (trace, steps): (&[u8], &[u8]),
+    [numbers, junctions]: [usize; 2],
+) {
     let lists = || (vec![77; numbers], vec![88; junctions]);
     let (mut found, mut known) = (lists(), lists());
-    let told = proved::replay(trace, &mut found.0, &mut found.1);
-    let expected = traces::replay(trace, &mut known.0, &mut known.1);
-    let input = || format!("{side:?} {} in {numbers} {junctions}", hex(trace));
+    let told = proved::replay(trace, steps, &mut found.0, &mut found.1);
+    let expected = traces::replay(trace, steps, &mut known.0, &mut known.1);
+    let both = || format!("{} under {}", hex(trace), hex(steps));
+    let input = || format!("{side:?} {} in {numbers} {junctions}", both());
     same(seed, input, (told, found), (expected, known));
 }
 
@@ -189,20 +201,59 @@ fn a_trace_of_each_length_stays_in_its_bytes_and_lists() {
         let limits = limits(rng);
         let whole = pack_trace(&limits, &calls(rng, 200));
         for length in 0..=LIMITS_BYTES + 8 * CALL_BYTES {
-            let bytes = &whole[..length];
-            compare_trace(seed, side, bytes, [rows(bytes), PLAN]);
+            let (bytes, steps) = (&whole[..length], some_steps(rng));
+            compare_trace(seed, side, (bytes, &steps), [rows(bytes), PLAN]);
         }
         for count in 0..=200 {
             let bytes = &whole[..LIMITS_BYTES + CALL_BYTES * count];
-            compare_trace(seed, side, bytes, [rows(bytes), PLAN]);
+            compare_trace(seed, side, (bytes, &steps(rng)), [rows(bytes), PLAN]);
         }
         let bytes = &whole[..LIMITS_BYTES + 3 * CALL_BYTES];
         for numbers in 0..=4 * ROW {
-            compare_trace(seed, side, bytes, [numbers, PLAN]);
+            compare_trace(seed, side, (bytes, &some_steps(rng)), [numbers, PLAN]);
         }
         for junctions in 0..=PLAN + 2 {
-            compare_trace(seed, side, bytes, [rows(bytes), junctions]);
+            let lengths = [rows(bytes), junctions];
+            compare_trace(seed, side, (bytes, &some_steps(rng)), lengths);
         }
     });
     report(2 * (249 + 201 + 61 + 68), "traces in lists of many lengths");
+}
+
+/// So many percentages of which none exceeds the one before it: eight pass.
+fn falling(rng: &mut Rng, length: usize) -> Vec<u8> {
+    let mut steps: Vec<u8> = (0..length).map(|_| rng.within(1, 100) as u8).collect();
+    steps.sort_unstable_by(|a, b| b.cmp(a));
+    steps
+}
+
+/// So many bytes of noise.
+fn noise(rng: &mut Rng, length: usize) -> Vec<u8> {
+    (0..length).map(|_| rng.word() as u8).collect()
+}
+
+/// Steps of 0 to 300 bytes, lent to a fresh planner, with a tape and with a
+/// trace. An empty list begins, at the one side, where the page begins that
+/// cannot be read.
+#[test]
+fn steps_of_each_length_stay_in_their_bytes() {
+    at_both_sides(|seed, rng, side| {
+        let (limits, blocks) = (limits(rng), path(rng, 3));
+        let trace = pack_trace(&limits, &calls(rng, 5));
+        let tape = Tape { limits, blocks }.pack();
+        for length in 0..=300 {
+            for steps in [falling(rng, length), noise(rng, length)] {
+                let input = || format!("{side:?} {limits:?} {}", hex(&steps));
+                let known = Line::fresh(&limits, &steps).map(|line| line.told());
+                let found = Planner::fresh(&limits, &steps).map(|planner| planner.told());
+                same(seed, input, found, known);
+                let (mut plan, mut expected) = ([77; 4], [77; 4]);
+                let known = tape::plan_tape(&tape, &steps, &mut expected);
+                let found = proved::plan_tape(&tape, &steps, &mut plan);
+                same(seed, input, (found, plan), (known, expected));
+                compare_trace(seed, side, (&trace, &steps), [rows(&trace), PLAN]);
+            }
+        }
+    });
+    report(2 * 301 * 2 * 3, "calls with 0 to 300 bytes of steps");
 }

@@ -1,8 +1,10 @@
 //! Faults on tapes of up to 2,048 records: each place, each refusal, several at
-//! once, and what comes before and after the records in the order of checks.
+//! once, and what comes before and after the records in the order of checks,
+//! under built-in and loaded torque steps.
 
 use std::collections::BTreeSet;
 
+use compare::words::some_steps;
 use compare::{hex, proved, report, same, seeds, Trying};
 use reference::generate::*;
 use reference::refusal::Fault;
@@ -24,33 +26,35 @@ fn accepted(rng: &mut Rng, count: usize) -> Vec<u8> {
 /// The number on the display, the place, and what a list of `n` numbers holds
 /// afterwards.
 fn answered(
-    plan: impl Fn(&[u8], &mut [u64]) -> Result<(), Fault>,
-    bytes: &[u8],
+    plan: impl Fn(&[u8], &[u8], &mut [u64]) -> Result<(), Fault>,
+    (bytes, steps): (&[u8], &[u8]),
     n: usize,
 ) -> (u64, u64, Vec<u64>) {
     let mut list = vec![77; n];
-    let (number, place) = match plan(bytes, &mut list) {
+    let (number, place) = match plan(bytes, steps, &mut list) {
         Ok(()) => (0, 0),
         Err(fault) => (fault.refusal.number(), fault.place),
     };
     (number, place, list)
 }
 
-/// Compares with the reference in a list of `n` numbers; gives number and
-/// place.
-fn compare_in(seed: u64, bytes: &[u8], n: usize) -> (u64, u64) {
-    let expected = answered(tape::plan_tape, bytes, n);
+/// Compares with the reference under the steps in a list of `n` numbers; gives
+/// number and place.
+fn compare_in(seed: u64, bytes: &[u8], steps: &[u8], n: usize) -> (u64, u64) {
+    let expected = answered(tape::plan_tape, (bytes, steps), n);
     let known = (expected.0, expected.1);
-    let input = || format!("{} in {n} numbers", hex(bytes));
-    same(seed, input, answered(proved::plan_tape, bytes, n), expected);
+    let input = || format!("{} under {} in {n} numbers", hex(bytes), hex(steps));
+    let found = answered(proved::plan_tape, (bytes, steps), n);
+    same(seed, input, found, expected);
     known
 }
 
-/// Sees that the tape is refused by the number at the place where the test has
-/// put the fault.
-fn confirm_refused(seed: u64, bytes: &[u8], n: usize, expected: (u64, usize)) {
-    let (number, place, list) = answered(proved::plan_tape, bytes, n);
-    let input = || format!("{} in {n} numbers", hex(bytes));
+/// Sees that the tape, under steps that pass, is refused by the number at the
+/// place where the test has put the fault.
+fn confirm_refused(seed: u64, rng: &mut Rng, bytes: &[u8], n: usize, expected: (u64, usize)) {
+    let steps = steps(rng);
+    let (number, place, list) = answered(proved::plan_tape, (bytes, &steps), n);
+    let input = || format!("{} under {} in {n} numbers", hex(bytes), hex(&steps));
     same(seed, input, (number, place as usize), expected);
     same(seed, input, list, vec![77; n]);
 }
@@ -69,7 +73,7 @@ fn each_place_of_the_longest_tape_is_told() {
             let mut bytes = whole.clone();
             spoil_record(&mut rng, &mut bytes, place, faults);
             let n = rng.pick(&[MOST_BLOCKS + 1, MOST_BLOCKS + 1, MOST_BLOCKS, 0]);
-            confirm_refused(seed, &bytes, n, (faults[0], place));
+            confirm_refused(seed, &mut rng, &bytes, n, (faults[0], place));
             count += 1;
         }
     }
@@ -91,7 +95,7 @@ fn one_fault_is_told_on_tapes_of_every_size() {
                 for place in [1, records, records.div_ceil(2), other] {
                     let mut bytes = whole.clone();
                     spoil_record(&mut rng, &mut bytes, place, faults);
-                    let told = compare_in(seed, &bytes, records + 1);
+                    let told = compare_in(seed, &bytes, &steps(&mut rng), records + 1);
                     assert_eq!(told, (faults[0], place as u64), "seed {seed}");
                     met.insert(told.0);
                     count += 1;
@@ -103,8 +107,9 @@ fn one_fault_is_told_on_tapes_of_every_size() {
     report(count, "tapes of many lengths with a fault");
 }
 
-/// Several records at fault, at times the limits too, a length that is none, or
-/// a list of another length: the first in the order of checks is told.
+/// Several records at fault, at times the limits or the steps too, a length that
+/// is none, or a list of another length: the first in the order of checks is
+/// told.
 #[test]
 fn the_first_of_several_faults_is_told() {
     let mut met = BTreeSet::new();
@@ -124,9 +129,9 @@ fn the_first_of_several_faults_is_told() {
             _ => {}
         }
         let n = rng.pick(&[records + 1, records + 1, records, records + 2, 0]);
-        met.insert(compare_in(seed, &bytes, n).0);
+        met.insert(compare_in(seed, &bytes, &some_steps(&mut rng), n).0);
     }
-    assert_eq!(met, BTreeSet::from([1, 2, 3, 4, 5, 9, 10]));
+    assert_eq!(met, BTreeSet::from([1, 2, 3, 4, 5, 9, 10, 14]));
     report(300, "tapes with several faults");
 }
 
@@ -148,7 +153,7 @@ fn the_longest_tape_ends_where_it_should() {
             let records = (length - LIMITS_BYTES) / RECORD_BYTES;
             for (bytes, n) in (records - 1..=records + 3).flat_map(|n| [(&whole, n), (&faulty, n)])
             {
-                met.insert(compare_in(seed, &bytes[..length], n).0);
+                met.insert(compare_in(seed, &bytes[..length], &steps(&mut rng), n).0);
                 count += 1;
             }
         }

@@ -1,14 +1,14 @@
 //! Every number of a planner's memory, and every answer, as the promise of the
 //! calls says for that memory: on noise, on memories of planners with numbers
-//! changed, and on those that calls alone have made.
+//! changed, the torque among them, and on those that calls alone have made.
 
-use std::collections::BTreeMap;
+use std::collections::{BTreeMap, BTreeSet};
 
 use compare::library::NUMBERS;
 use compare::memories::{any_memory, left_by_calls};
 use compare::proved::Planner;
-use compare::ring::{Ring, BUILT_IN_TORQUE, FIRST, HEAD, TORQUE};
-use compare::words::{any_block, any_limits};
+use compare::ring::{Ring, FIRST, HEAD, TORQUE};
+use compare::words::{any_block, any_limits, some_steps};
 use compare::{report, same, seeds, Trying};
 use reference::generate::*;
 use reference::line::LookAhead;
@@ -18,9 +18,9 @@ use reference::rng::Rng;
 use reference::trace::Call;
 
 /// A call that may write the memory.
-#[derive(Clone, Copy, Debug)]
+#[derive(Clone, Debug)]
 enum Writes {
-    Fresh(Limits),
+    Fresh(Limits, Vec<u8>),
     Add(Block),
     Take,
 }
@@ -44,7 +44,7 @@ type Answer = Result<Option<Given>, Refusal>;
 
 fn by_the_library(planner: &mut Planner, call: &Writes) -> Answer {
     match call {
-        Writes::Fresh(limits) => planner.freshen(limits).map(|()| None),
+        Writes::Fresh(limits, steps) => planner.freshen(limits, steps).map(|()| None),
         Writes::Add(block) => planner.add(block).map(|()| None),
         Writes::Take => planner.take().map(Some),
     }
@@ -52,7 +52,7 @@ fn by_the_library(planner: &mut Planner, call: &Writes) -> Answer {
 
 fn by_the_promise(ring: &mut Ring, call: &Writes) -> Answer {
     match call {
-        Writes::Fresh(limits) => ring.freshen(limits).map(|()| None),
+        Writes::Fresh(limits, steps) => ring.freshen(limits, steps).map(|()| None),
         Writes::Add(block) => ring.add(block).map(|()| None),
         Writes::Take => ring.take().map(Some),
     }
@@ -118,7 +118,7 @@ impl Both {
 /// whether it has a ramp.
 fn kind(call: &Writes, answer: &Answer) -> String {
     let name = match call {
-        Writes::Fresh(_) => "fresh",
+        Writes::Fresh(..) => "fresh",
         Writes::Add(_) => "add",
         Writes::Take => "take",
     };
@@ -135,9 +135,10 @@ fn some_calls(rng: &mut Rng, count: usize) -> Vec<Writes> {
     let mut list = Vec::new();
     for call in calls(rng, count) {
         list.push(match call {
-            _ if rng.once_in(20) => Writes::Fresh(limits(rng)),
-            _ if rng.once_in(30) => Writes::Fresh(faulty_limits(rng)),
-            _ if rng.once_in(30) => Writes::Fresh(any_limits(rng)),
+            _ if rng.once_in(20) => Writes::Fresh(limits(rng), steps(rng)),
+            _ if rng.once_in(30) => Writes::Fresh(limits(rng), faulty_steps(rng)),
+            _ if rng.once_in(30) => Writes::Fresh(faulty_limits(rng), some_steps(rng)),
+            _ if rng.once_in(30) => Writes::Fresh(any_limits(rng), some_steps(rng)),
             _ if rng.once_in(20) => Writes::Add(any_block(rng)),
             Call::Add(block) => Writes::Add(block),
             Call::Take => Writes::Take,
@@ -176,7 +177,7 @@ fn every_memory_is_answered_and_left_as_promised() {
         add_up(&mut met, both.met);
     }
     confirm_met(&met, &ANSWERS, 100);
-    confirm_met(&met, &["fresh 1", "take with none"], 100);
+    confirm_met(&met, &["fresh 1", "fresh 14", "take with none"], 100);
     report(count, "calls on memory of any kind");
 }
 
@@ -190,10 +191,10 @@ fn a_planners_memory_is_left_as_promised() {
         let mut rng = Rng::new(seed);
         let memory = [(); NUMBERS].map(|_| rng.word());
         let mut both = Both::on(seed, &memory);
-        both.run(&Writes::Fresh(limits(&mut rng)), 1);
+        both.run(&Writes::Fresh(limits(&mut rng), steps(&mut rng)), 1);
         for call in calls(&mut rng, 400) {
             let call = match call {
-                _ if rng.once_in(100) => Writes::Fresh(limits(&mut rng)),
+                _ if rng.once_in(100) => Writes::Fresh(limits(&mut rng), steps(&mut rng)),
                 Call::Add(block) => Writes::Add(block),
                 Call::Take => Writes::Take,
             };
@@ -206,6 +207,13 @@ fn a_planners_memory_is_left_as_promised() {
     report(count, "calls of planners, with all their memory");
 }
 
+/// The torque that the scope document's percentages and each list of loaded ones
+/// make in memory: a byte for each, the first most significant.
+fn torque_of(steps: &[u8]) -> u64 {
+    let built_in = [100, 100, 90, 80, 70, 60, 50, 40];
+    u64::from_be_bytes(steps.try_into().unwrap_or(built_in))
+}
+
 /// A fresh planner on used memory: the numbers of the head are new, and the
 /// places keep what they held.
 #[test]
@@ -214,14 +222,59 @@ fn a_fresh_planner_leaves_the_places_as_they_were() {
         let _trying = Trying::seed(seed);
         let mut rng = Rng::new(seed);
         let before = left_by_calls(&mut rng);
+        let steps = steps(&mut rng);
         let mut both = Both::on(seed, &before);
-        both.run(&Writes::Fresh(limits(&mut rng)), 1);
+        both.run(&Writes::Fresh(limits(&mut rng), steps.clone()), 1);
         let after = both.planner.memory();
         assert_eq!(after[HEAD..], before[HEAD..], "seed {seed}");
         assert_eq!(after[FIRST..TORQUE], [0; 3], "seed {seed}");
-        assert_eq!(after[TORQUE], BUILT_IN_TORQUE, "seed {seed}");
+        assert_eq!(after[TORQUE], torque_of(&steps), "seed {seed}");
     }
     report(2_000, "fresh planners on used memory");
+}
+
+/// A torque that no list of steps makes: no percentage at all, the greatest of a
+/// byte, one too great, rising ones, or noise.
+fn unmade_torque(rng: &mut Rng) -> u64 {
+    match rng.below(6) {
+        0 => 0,
+        1 => u64::MAX,
+        2 => u64::from_be_bytes([101; 8]),
+        3 => u64::from_be_bytes([1, 2, 3, 4, 5, 6, 7, 8]),
+        _ => rng.word(),
+    }
+}
+
+/// Blocks of each edge speed of the steps, added to a planner with such a torque
+/// and given out: acceleration, reach and speeds are as the promise says, and a
+/// take is answered with a ramp.
+#[test]
+fn a_torque_that_no_steps_make_is_answered_as_promised() {
+    let (mut met, mut percents, mut count) = (BTreeMap::new(), BTreeSet::new(), 0);
+    for seed in seeds(60) {
+        let _trying = Trying::seed(seed);
+        let mut rng = Rng::new(seed);
+        for speed in edge_speeds() {
+            let (way, cause) = (rng.pick(&WAYS), rng.pick(&CAUSES));
+            let (limits, block) = block_of_speed(&mut rng, speed, way, cause);
+            let made = Planner::fresh(&limits, &steps(&mut rng)).expect("both pass");
+            let mut memory: [u64; NUMBERS] = made.memory().try_into().expect("781 numbers");
+            memory[TORQUE] = unmade_torque(&mut rng);
+            percents.insert(memory[TORQUE].to_be_bytes()[(speed as usize - 1) / 125_000]);
+            let mut both = Both::on(seed, &memory);
+            let (add, take) = (Writes::Add(block), Writes::Take);
+            for call in [&add, &add, &take, &add, &take, &take] {
+                both.run(call, 2);
+                count += 1;
+            }
+            add_up(&mut met, both.met);
+        }
+    }
+    assert_eq!(met.len(), 2, "{met:?}");
+    confirm_met(&met, &["add 0", "take with a ramp"], count / 2);
+    let beyond = percents.iter().filter(|percent| **percent > 100);
+    assert!(beyond.count() > 50 && percents.contains(&0), "{percents:?}");
+    report(count, "calls with a torque that no steps make");
 }
 
 /// A planner whose first block lies at each of the 64 places in turn: 64 blocks
@@ -233,12 +286,12 @@ fn sixty_four_blocks_are_held_from_every_place_on() {
         let _trying = Trying::seed(seed);
         let mut rng = Rng::new(seed);
         let mut both = Both::on(seed, &[rng.word(); NUMBERS]);
-        both.run(&Writes::Fresh(limits(&mut rng)), 0);
+        both.run(&Writes::Fresh(limits(&mut rng), steps(&mut rng)), 0);
         let blocks = path(&mut rng, 200);
         let (before, rest) = blocks.split_at((seed % 64) as usize);
         let turn = before.iter().flat_map(|b| [Writes::Add(*b), Writes::Take]);
         let adds = rest[..66].iter().map(|b| Writes::Add(*b));
-        for call in turn.chain(adds).chain([Writes::Take; 66]) {
+        for call in turn.chain(adds).chain(vec![Writes::Take; 66]) {
             both.run(&call, 66);
             count += 1;
         }

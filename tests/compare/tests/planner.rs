@@ -4,7 +4,7 @@ use std::collections::BTreeSet;
 
 use compare::library::NUMBERS;
 use compare::proved::Planner;
-use compare::words::{any_block, any_limits};
+use compare::words::{any_block, any_limits, some_steps};
 use compare::{hex, report, same, seeds, Trying};
 use reference::generate::*;
 use reference::incremental;
@@ -30,16 +30,21 @@ fn plan<P: LookAhead>(planner: &P, length: usize) -> (Result<(), Refusal>, Vec<u
     (planner.shown(&mut list), list)
 }
 
-/// Runs the calls through the proved planner and another, comparing answers,
-/// numbers told and plans shown in lists of right and of wrong length. Gives
-/// the numbers on the display that were met.
-fn compare_with<P: LookAhead>(seed: u64, limits: &Limits, calls: &[Call]) -> BTreeSet<u64> {
+/// Runs the calls through the proved planner and another, both made with the
+/// steps, comparing answers, numbers told and plans shown in lists of right and
+/// of wrong length. Gives the numbers on the display that were met.
+fn compare_with<P: LookAhead>(
+    seed: u64,
+    (limits, steps): (&Limits, &[u8]),
+    calls: &[Call],
+) -> BTreeSet<u64> {
     let mut rng = Rng::new(seed);
     let mut met = BTreeSet::new();
-    let mut proved = Planner::fresh(limits).expect("limits that pass");
-    let mut other = P::fresh(limits).expect("limits that pass");
+    let mut proved = Planner::fresh(limits, steps).expect("limits and steps that pass");
+    let mut other = P::fresh(limits, steps).expect("limits and steps that pass");
     for (place, call) in calls.iter().enumerate() {
-        let input = || format!("{} at call {place}", hex(&pack_trace(limits, calls)));
+        let trace = || hex(&pack_trace(limits, calls));
+        let input = || format!("{} under {} at call {place}", trace(), hex(steps));
         let expected = answer(&mut other, call);
         met.insert(expected.map_or_else(|refusal| refusal.number(), |_| 0));
         same(seed, input, answer(&mut proved, call), expected);
@@ -60,27 +65,29 @@ fn every_call_is_answered_as_the_line_of_blocks_says() {
     for seed in seeds(3_000) {
         let _trying = Trying::seed(seed);
         let mut rng = Rng::new(seed);
-        let limits = limits(&mut rng);
+        let (limits, steps) = (limits(&mut rng), steps(&mut rng));
         let length = rng.within(1, 300) as usize;
         let calls = calls(&mut rng, length);
         count += calls.len();
-        met.extend(compare_with::<Line>(seed, &limits, &calls));
+        met.extend(compare_with::<Line>(seed, (&limits, &steps), &calls));
     }
     assert_eq!(met, BTreeSet::from([0, 2, 3, 4, 5, 6, 7, 8]));
     report(count, "calls against the line of blocks");
 }
 
-/// The ring of places goes round hundreds of times.
+/// The ring of places goes round hundreds of times, under built-in steps at one
+/// seed and loaded ones at the next.
 #[test]
 fn long_runs_are_answered_as_the_other_planner_answers() {
     let mut count = 0;
     for seed in seeds(8) {
         let _trying = Trying::seed(seed);
         let mut rng = Rng::new(seed);
-        let limits = limits(&mut rng);
+        let (limits, steps) = (limits(&mut rng), loaded_steps(&mut rng));
+        let steps = if seed % 2 == 0 { &[][..] } else { &steps };
         let calls = calls(&mut rng, 60_000);
         count += calls.len();
-        compare_with::<incremental::Planner>(seed, &limits, &calls);
+        compare_with::<incremental::Planner>(seed, (&limits, steps), &calls);
     }
     report(count, "calls of long runs");
 }
@@ -91,12 +98,13 @@ fn each_number_of_blocks_held_gives_the_same_speeds() {
     let mut count = 0;
     for (held, seed) in (1..=64).zip(seeds(64)) {
         let _trying = Trying::seed(seed);
+        let steps = steps(&mut Rng::new(!seed));
         for blocks in [short_steps(seed, 300), straight_steps(seed, 300)] {
             let (first, rest) = blocks.split_at(held);
             let mut list: Vec<Call> = first.iter().map(|b| Call::Add(*b)).collect();
             list.extend(rest.iter().flat_map(|b| [Call::Take, Call::Add(*b)]));
             count += list.len();
-            compare_with::<Line>(seed, &machine_m(), &list);
+            compare_with::<Line>(seed, (&machine_m(), &steps), &list);
         }
     }
     report(count, "calls with 1 to 64 held");
@@ -110,7 +118,8 @@ fn full_and_empty_planners_are_answered_as_the_line_of_blocks_says() {
     for seed in seeds(64) {
         let _trying = Trying::seed(seed);
         let mut rng = Rng::new(seed);
-        let (limits, turns) = (limits(&mut rng), (seed % 64) as usize);
+        let (limits, steps) = (limits(&mut rng), steps(&mut rng));
+        let turns = (seed % 64) as usize;
         let mut list = Vec::new();
         for block in path(&mut rng, turns) {
             list.extend([Call::Add(block), Call::Take]);
@@ -120,15 +129,16 @@ fn full_and_empty_planners_are_answered_as_the_line_of_blocks_says() {
             list.extend([Call::Take; 66]);
         }
         count += list.len();
-        let met = compare_with::<Line>(seed, &limits, &list);
+        let met = compare_with::<Line>(seed, (&limits, &steps), &list);
         assert_eq!(met, BTreeSet::from([0, 7, 8]), "seed {seed}");
     }
     report(count, "calls of full and empty planners");
 }
 
-/// Limits at and beyond the ends of their ranges, and of any words.
+/// Limits at and beyond the ends of their ranges, and of any words, with steps
+/// that pass and steps that do not.
 #[test]
-fn fresh_planners_are_made_from_the_same_limits() {
+fn fresh_planners_are_made_from_the_same_limits_and_steps() {
     let mut made = 0;
     for seed in seeds(20_000) {
         let _trying = Trying::seed(seed);
@@ -138,14 +148,15 @@ fn fresh_planners_are_made_from_the_same_limits() {
             1 => faulty_limits(&mut rng),
             _ => limits(&mut rng),
         };
-        let expected = Line::fresh(&limits).map(|line| line.profile());
-        let proved = Planner::fresh(&limits);
+        let steps = some_steps(&mut rng);
+        let expected = Line::fresh(&limits, &steps).map(|line| line.profile());
+        let proved = Planner::fresh(&limits, &steps);
         made += usize::from(proved.is_ok());
         let shown = proved.map(|planner| {
             assert_eq!(planner.told(), 0);
             plan(&planner, 1).1
         });
-        same(seed, || format!("{limits:?}"), shown, expected);
+        same(seed, || format!("{limits:?} {steps:?}"), shown, expected);
     }
     assert!(made > 5_000, "{made}");
     report(20_000, "fresh planners");
@@ -159,8 +170,9 @@ fn adds_of_any_words_are_answered_alike() {
     for seed in seeds(200) {
         let _trying = Trying::seed(seed);
         let mut rng = Rng::new(seed);
-        let mut proved = Planner::fresh(&machine_m()).expect("machine M passes");
-        let mut line = Line::fresh(&machine_m()).expect("machine M passes");
+        let steps = steps(&mut rng);
+        let mut proved = Planner::fresh(&machine_m(), &steps).expect("steps that pass");
+        let mut line = Line::fresh(&machine_m(), &steps).expect("steps that pass");
         for block in short_steps(seed, rng.within(0, 64) as usize) {
             proved.add(&block).expect("room");
             line.add(&block).expect("room");
@@ -184,10 +196,15 @@ fn planners_do_not_disturb_one_another() {
     for seed in seeds(100) {
         let _trying = Trying::seed(seed);
         let mut rng = Rng::new(seed);
-        let both = [limits(&mut rng), limits(&mut rng)];
+        let both = [(); 2].map(|_| (limits(&mut rng), steps(&mut rng)));
         let lists = [calls(&mut rng, 200), calls(&mut rng, 200)];
-        let mut lines = both.map(|l| Line::fresh(&l).expect("limits that pass"));
-        let mut planners = both.map(|l| Planner::fresh(&l).expect("limits that pass"));
+        let passing = "limits and steps that pass";
+        let mut lines = both
+            .each_ref()
+            .map(|(l, s)| Line::fresh(l, s).expect(passing));
+        let mut planners = both
+            .each_ref()
+            .map(|(l, s)| Planner::fresh(l, s).expect(passing));
         for (first, second) in lists[0].iter().zip(&lists[1]) {
             for (i, call) in [first, second].into_iter().enumerate() {
                 let expected = answer(&mut lines[i], call);

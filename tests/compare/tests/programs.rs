@@ -1,10 +1,16 @@
 //! The programs planlist and planreplay write what the reference writes.
 
-use std::fs::File;
+use std::ffi::{c_char, c_int, c_uint, CString};
+use std::fs::{self, File};
 use std::io::Write;
+use std::os::unix::ffi::OsStrExt;
+use std::path::{Path, PathBuf};
 use std::process::Stdio;
+use std::thread;
+use std::time::Duration;
 
 use compare::programs::*;
+use compare::words::some_steps;
 use compare::{hex, report, same, seeds};
 use reference::examples::{example, example_trace, NAMES, TRACE_NAMES};
 use reference::generate::*;
@@ -36,14 +42,21 @@ const ENDS: [Limits; 2] = [
     },
 ];
 
-fn compare_list(seed: u64, tape: &[u8]) {
-    let text = run(&planlist(), tape);
-    same(seed, || hex(tape), text, listing::planlist(tape));
+/// Torque steps: none loaded, and all percentages at an end of their range.
+const END_STEPS: [&[u8]; 3] = [&[], &[1; 8], &[100; 8]];
+
+/// Compares the listings of a tape under loaded torque steps.
+fn compare_list(seed: u64, tape: &[u8], steps: &[u8]) {
+    let text = run_under(seed, &planlist(), steps, tape);
+    let input = || format!("{} under {}", hex(tape), hex(steps));
+    same(seed, input, text, listing::planlist(tape, steps));
 }
 
-fn compare_replay(seed: u64, trace: &[u8]) {
-    let text = run(&planreplay(), trace);
-    same(seed, || hex(trace), text, listing::planreplay(trace));
+/// Compares the texts of a trace under loaded torque steps.
+fn compare_replay(seed: u64, trace: &[u8], steps: &[u8]) {
+    let text = run_under(seed, &planreplay(), steps, trace);
+    let input = || format!("{} under {}", hex(trace), hex(steps));
+    same(seed, input, text, listing::planreplay(trace, steps));
 }
 
 /// The longest moves in every direction, fastest, the radius at both ends.
@@ -65,18 +78,26 @@ fn far_blocks(count: usize) -> Vec<Block> {
 #[test]
 fn planlist_lists_accepted_tapes() {
     for seed in seeds(400) {
-        compare_list(seed, &tape(&mut Rng::new(seed)));
+        let mut rng = Rng::new(seed);
+        let (tape, steps) = (tape(&mut rng), steps(&mut rng));
+        compare_list(seed, &tape, &steps);
     }
+    let mut rng = Rng::new(2);
     for name in NAMES {
-        compare_list(0, &example(name).expect("an example").pack());
+        let tape = example(name).expect("an example").pack();
+        for steps in [Vec::new(), loaded_steps(&mut rng)] {
+            compare_list(0, &tape, &steps);
+        }
     }
-    report(400 + NAMES.len(), "tapes listed");
+    report(400 + 2 * NAMES.len(), "tapes listed");
 }
 
 #[test]
 fn planlist_refuses_faulty_tapes() {
     for seed in seeds(600) {
-        compare_list(seed, &faulty_tape(&mut Rng::new(seed)));
+        let mut rng = Rng::new(seed);
+        let (tape, steps) = (faulty_tape(&mut rng), some_steps(&mut rng));
+        compare_list(seed, &tape, &steps);
     }
     report(600, "faulty tapes");
 }
@@ -91,8 +112,11 @@ fn planlist_answers_extreme_machines() {
             short_steps(3, 100),
             vec![],
         ] {
-            compare_list(count, &Tape { limits, blocks }.pack());
-            count += 1;
+            let tape = Tape { limits, blocks }.pack();
+            for steps in END_STEPS {
+                compare_list(count, &tape, steps);
+                count += 1;
+            }
         }
     }
     report(count as usize, "tapes of extreme machines");
@@ -101,14 +125,15 @@ fn planlist_answers_extreme_machines() {
 #[test]
 fn planlist_answers_empty_ragged_and_noisy_input() {
     let whole = example("to-and-fro").expect("an example").pack();
+    let mut rng = Rng::new(5);
     for length in 0..60 {
-        compare_list(length, &whole[..length as usize]);
+        compare_list(length, &whole[..length as usize], &some_steps(&mut rng));
     }
     for seed in seeds(100) {
         let mut rng = Rng::new(seed);
         let count = rng.spread(0, 40_000);
         let noise: Vec<u8> = (0..count).map(|_| rng.word() as u8).collect();
-        compare_list(seed, &noise);
+        compare_list(seed, &noise, &some_steps(&mut rng));
     }
     for length in [
         MOST_BYTES - 1,
@@ -117,7 +142,7 @@ fn planlist_answers_empty_ragged_and_noisy_input() {
         MOST_BYTES + 16,
         300_000,
     ] {
-        compare_list(length as u64, &vec![0; length]);
+        compare_list(length as u64, &vec![0; length], &some_steps(&mut rng));
     }
     report(165, "empty, ragged and noisy inputs");
 }
@@ -142,24 +167,87 @@ fn planlist_ends_on_endless_input() {
 fn programs_take_input_in_pieces() {
     let tape = example("mould-row").expect("an example").pack();
     let trace = example_trace("shop-traffic").expect("an example");
+    let steps = loaded_steps(&mut Rng::new(7));
     for piece in [1, 7, 100, 4_096] {
         let text = run_in_pieces(&planlist(), &tape, piece);
-        assert_eq!(text, listing::planlist(&tape), "pieces of {piece}");
+        assert_eq!(text, listing::planlist(&tape, &[]), "pieces of {piece}");
         let text = run_in_pieces(&planreplay(), &trace, piece);
-        assert_eq!(text, listing::planreplay(&trace), "pieces of {piece}");
+        assert_eq!(text, listing::planreplay(&trace, &[]), "pieces of {piece}");
+        let text = run_with_steps(&planlist(), &steps, &tape, piece);
+        assert_eq!(text, listing::planlist(&tape, &steps), "pieces of {piece}");
+        let text = run_with_steps(&planreplay(), &steps, &trace, piece);
+        assert_eq!(
+            text,
+            listing::planreplay(&trace, &steps),
+            "pieces of {piece}"
+        );
     }
-    report(8, "inputs in pieces");
+    report(16, "inputs in pieces");
+}
+
+extern "C" {
+    fn mkfifo(path: *const c_char, mode: c_uint) -> c_int;
+}
+
+/// A new pipe with a name.
+fn named_pipe(name: &str) -> PathBuf {
+    let path = PathBuf::from(env!("CARGO_TARGET_TMPDIR")).join(name);
+    let _ = fs::remove_file(&path);
+    let text = CString::new(path.as_os_str().as_bytes()).expect("a path");
+    // the call reads the text up to its 0
+    let made = unsafe { mkfifo(text.as_ptr(), 0o600) };
+    assert_eq!(made, 0, "{}", path.display());
+    path
+}
+
+/// Writes each byte into a pipe when the one before it is likely to be read.
+fn write_bytes(pipe: &Path, bytes: &[u8]) {
+    let mut pipe = File::options().write(true).open(pipe).expect("a reader");
+    for byte in bytes {
+        pipe.write_all(&[*byte]).expect("a reader");
+        thread::sleep(Duration::from_millis(3));
+    }
+}
+
+/// Steps that come byte by byte, eight that pass, one less, and one more: all of
+/// them are read.
+#[test]
+fn programs_take_steps_in_pieces() {
+    let tape = example("mould-row").expect("an example").pack();
+    let trace = example_trace("shop-traffic").expect("an example");
+    for steps in [&[90; 7][..], &[90; 8], &[90; 9]] {
+        let runs = [
+            (planlist(), &tape, listing::planlist(&tape, steps)),
+            (planreplay(), &trace, listing::planreplay(&trace, steps)),
+        ];
+        for (program, input, expected) in runs {
+            let pipe = named_pipe("steps.pipe");
+            let (path, bytes) = (pipe.clone(), steps.to_vec());
+            let writer = thread::spawn(move || write_bytes(&path, &bytes));
+            let text = run_with(&program, &steps_words(&pipe), input, usize::MAX);
+            assert_eq!(text, expected, "{steps:?}");
+            writer.join().expect("no panic");
+            let _ = fs::remove_file(&pipe);
+        }
+    }
+    report(6, "steps in pieces");
 }
 
 #[test]
 fn planreplay_answers_traces() {
     for seed in seeds(600) {
-        compare_replay(seed, &trace(&mut Rng::new(seed)));
+        let mut rng = Rng::new(seed);
+        let (trace, steps) = (trace(&mut rng), some_steps(&mut rng));
+        compare_replay(seed, &trace, &steps);
     }
+    let mut rng = Rng::new(2);
     for name in TRACE_NAMES {
-        compare_replay(0, &example_trace(name).expect("an example"));
+        let trace = example_trace(name).expect("an example");
+        for steps in [Vec::new(), loaded_steps(&mut rng)] {
+            compare_replay(0, &trace, &steps);
+        }
     }
-    report(600 + TRACE_NAMES.len(), "traces replayed");
+    report(600 + 2 * TRACE_NAMES.len(), "traces replayed");
 }
 
 #[test]
@@ -170,8 +258,11 @@ fn planreplay_answers_extreme_machines() {
             let mut calls: Vec<Call> = blocks[..70].iter().map(|b| Call::Add(*b)).collect();
             let rest = blocks[70..].iter();
             calls.extend(rest.flat_map(|b| [Call::Take, Call::Add(*b)]));
-            compare_replay(count, &pack_trace(&limits, &calls));
-            count += 1;
+            let trace = pack_trace(&limits, &calls);
+            for steps in END_STEPS {
+                compare_replay(count, &trace, steps);
+                count += 1;
+            }
         }
     }
     report(count as usize, "traces of extreme machines");
@@ -180,10 +271,11 @@ fn planreplay_answers_extreme_machines() {
 #[test]
 fn planreplay_answers_empty_and_ragged_input() {
     let whole = example_trace("shop-traffic").expect("an example");
+    let mut rng = Rng::new(6);
     for length in 0..110 {
-        compare_replay(length, &whole[..length as usize]);
+        compare_replay(length, &whole[..length as usize], &some_steps(&mut rng));
     }
-    compare_replay(0, &[0; 24]);
+    compare_replay(0, &[0; 24], &[]);
     report(111, "empty and ragged traces");
 }
 
@@ -201,7 +293,7 @@ fn planreplay_answers_at_the_borders_of_its_chunks() {
         for calls in border.saturating_sub(1)..=border + 1 {
             for more in [0, 1, CALL_BYTES - 1] {
                 let length = LIMITS_BYTES + calls * CALL_BYTES + more;
-                compare_replay(length as u64, &whole[..length]);
+                compare_replay(length as u64, &whole[..length], &steps(&mut rng));
                 count += 1;
             }
         }
@@ -209,15 +301,17 @@ fn planreplay_answers_at_the_borders_of_its_chunks() {
     report(count, "traces that end at a chunk's border");
 }
 
-/// A trace far longer than any buffer.
+/// A trace far longer than any buffer, under built-in steps and loaded ones.
 #[test]
 fn planreplay_runs_a_long_trace() {
     let mut rng = Rng::new(9);
-    let limits = limits(&mut rng);
+    let (limits, steps) = (limits(&mut rng), loaded_steps(&mut rng));
     let trace = pack_trace(&limits, &calls(&mut rng, 100_000));
     let text = run(&planreplay(), &trace);
-    assert!(text == listing::planreplay_by::<Planner>(&trace));
-    report(100_000, "calls of a long trace");
+    assert!(text == listing::planreplay_by::<Planner>(&trace, &[]));
+    let text = run_with_steps(&planreplay(), &steps, &trace, usize::MAX);
+    assert!(text == listing::planreplay_by::<Planner>(&trace, &steps));
+    report(200_000, "calls of a long trace");
 }
 
 /// Every write to /dev/full fails. A program that could not write its text says

@@ -3,15 +3,15 @@
 
 use compare::proved::Planner;
 use compare::{report, same, seeds, Trying};
-use reference::generate::{limits, machine_m};
+use reference::generate::{limits, machine_m, steps};
 use reference::line::{Line, LookAhead};
 use reference::machine::{Block, Given, Limits};
 use reference::machine_cases::block;
 use reference::rng::Rng;
 
 /// What is given out of a fresh planner that the blocks were added to.
-fn given<P: LookAhead>(limits: &Limits, blocks: &[Block]) -> Vec<Given> {
-    let mut planner = P::fresh(limits).expect("limits that pass");
+fn given<P: LookAhead>(limits: &Limits, steps: &[u8], blocks: &[Block]) -> Vec<Given> {
+    let mut planner = P::fresh(limits, steps).expect("limits and steps that pass");
     for block in blocks {
         planner.add(block).expect("a block that passes");
     }
@@ -21,7 +21,7 @@ fn given<P: LookAhead>(limits: &Limits, blocks: &[Block]) -> Vec<Given> {
 
 /// Up, cruise and down of each block, µm, on machine M.
 fn ramps(blocks: &[Block]) -> Vec<[u64; 3]> {
-    let given = given::<Planner>(&machine_m(), blocks);
+    let given = given::<Planner>(&machine_m(), &[], blocks);
     let ramps = given
         .iter()
         .map(|g| [g.ramp.up, g.ramp.cruise, g.ramp.down]);
@@ -77,10 +77,13 @@ fn exact_halves_are_rounded_alike() {
     let mut met = [0; 4];
     for seed in seeds(20_000) {
         let _trying = Trying::seed(seed);
-        let (limits, blocks) = straight_on(&mut Rng::new(seed));
-        let found = given::<Planner>(&limits, &blocks);
-        let input = || format!("{limits:?} {blocks:?}");
-        same(seed, input, &found, &given::<Line>(&limits, &blocks));
+        let mut rng = Rng::new(seed);
+        let (limits, blocks) = straight_on(&mut rng);
+        let steps = steps(&mut rng);
+        let found = given::<Planner>(&limits, &steps, &blocks);
+        let known = given::<Line>(&limits, &steps, &blocks);
+        let input = || format!("{limits:?} {steps:?} {blocks:?}");
+        same(seed, input, &found, &known);
         for g in found {
             let up = is_half(g.ramp.peak - g.entry, g.accel);
             let down = is_half(g.ramp.peak - g.exit, g.accel);

@@ -1,5 +1,6 @@
 //! Block speeds at the edges of the torque steps, and at the ends of their
-//! range: at each edge, one below it and one above.
+//! range: at each edge, one below it and one above, under built-in steps and
+//! under loaded ones.
 
 use std::collections::BTreeSet;
 
@@ -7,9 +8,9 @@ use compare::lines::{compare_planners, compare_tapes};
 use compare::proved::Planner;
 use compare::ring::Ring;
 use compare::{report, same, seeds, Trying};
-use reference::generate::{block_of_speed, edge_speeds, path_at_edges, CAUSES, WAYS};
+use reference::generate::{block_of_speed, edge_speeds, path_at_edges, steps, CAUSES, WAYS};
 use reference::line::LookAhead;
-use reference::machine::Numbers;
+use reference::machine::{length_of, speed_of};
 use reference::rng::Rng;
 
 /// Each edge speed, straight along an axis and oblique, by the feed and by the
@@ -27,9 +28,10 @@ fn every_edge_speed_gives_the_same_numbers() {
                 .flat_map(|way| CAUSES.map(|cause| (*way, cause)))
             {
                 let (limits, block) = block_of_speed(&mut rng, speed, way, cause);
+                let steps = steps(&mut rng);
                 for times in 1..=3 {
-                    compare_planners(seed, &limits, &vec![block; times]);
-                    compare_tapes(seed, &limits, &vec![block; times]);
+                    compare_planners(seed, &limits, &steps, &vec![block; times]);
+                    compare_tapes(seed, &limits, &steps, &vec![block; times]);
                     count += 2;
                 }
             }
@@ -47,9 +49,10 @@ fn paths_at_edge_speeds_have_the_same_plan() {
         let mut rng = Rng::new(seed);
         let count = rng.within(1, 40) as usize;
         let (limits, blocks) = path_at_edges(&mut rng, count);
-        compare_planners(seed, &limits, &blocks);
-        compare_tapes(seed, &limits, &blocks);
-        met.extend(blocks.iter().map(|b| Numbers::of(&limits, b).speed));
+        let steps = steps(&mut rng);
+        compare_planners(seed, &limits, &steps, &blocks);
+        compare_tapes(seed, &limits, &steps, &blocks);
+        met.extend(blocks.iter().map(|b| speed_of(&limits, b, length_of(b))));
     }
     let missed = edges.iter().filter(|edge| !met.contains(edge));
     assert_eq!(missed.count(), 0, "of {edges:?}");
@@ -67,9 +70,10 @@ fn the_memory_holds_the_numbers_of_edge_speeds() {
         for speed in edge_speeds() {
             let (way, cause) = (rng.pick(&WAYS), rng.pick(&CAUSES));
             let (limits, block) = block_of_speed(&mut rng, speed, way, cause);
-            let mut planner = Planner::fresh(&limits).expect("limits that pass");
+            let steps = steps(&mut rng);
+            let mut planner = Planner::fresh(&limits, &steps).expect("limits and steps that pass");
             let mut ring = Ring::of_memory(planner.memory().try_into().expect("781 numbers"));
-            let input = || format!("{limits:?} {block:?}");
+            let input = || format!("{limits:?} {steps:?} {block:?}");
             same(seed, input, planner.add(&block), ring.add(&block));
             same(seed, input, planner.memory(), &ring.memory()[..]);
             count += 1;

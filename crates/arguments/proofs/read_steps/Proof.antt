@@ -1,13 +1,17 @@
 -- `arguments::read_steps` meets its contract: the bytes are those of `read_file`.
-use Rattle.arguments.proofs.Read.{bytes-within}
+use mathlib.Core.Path.{sym, subst}
+use lib.ListN.{length}
+use Rattle.arguments.specs.Words.{Fits}
+use Rattle.arguments.proofs.Read.{order-fits}
 use borrow.Author.Needs.{needs}
 use Rattle.arguments.proofs.read_steps.Statement.{statement}
 use Rattle.arguments.proofs.read_steps.Tie as tie
 
 returns-2 : tie.Need-returns-2
 returns-2 c =
-    let n = c .before in
-    bytes-within (n .n .given .1) (n .before .before .before .before .read-file .ensures)
+    let r = c .before .before .before .before .before .before in
+    let room = length (r .read-file .last .1 .0) in
+    subst (Fits room) (sym (c .order-of .ensures)) (order-fits (r .read-file .result) room (r .read-file .ensures))
 
 pub read-steps-spec : {M : Type 1} → statement M
 read-steps-spec =
@@ -21,10 +25,7 @@ read-steps-spec =
     (λ c κs. search needs)
     (λ c. search needs)
     (λ c. search needs)
-    (λ c. search needs)
-    (λ c. search needs)
+    (λ c κs. search needs)
     (λ c κs. search needs)
     (λ c. search needs)
-    returns-2
-    (λ c. search needs)
-    (λ c. search needs))
+    returns-2)

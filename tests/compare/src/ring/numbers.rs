@@ -6,6 +6,8 @@
 
 use reference::machine::{Block, Limits, Ramp};
 
+use super::torque::torque_percent;
+
 /// What is kept of a block's numbers: µm, µm/s², and (µm/s)² twice.
 #[derive(Clone, Copy, Debug)]
 pub struct Numbers {
@@ -37,12 +39,6 @@ fn each_axis(cap: u128, limits: &[u64; 3], length: u128, sizes: &[u128; 3]) -> u
     axes.fold(cap, |cap, (limit, size)| {
         capped_quotient(cap, *limit as u128 * length, *size)
     })
-}
-
-/// Percent of the acceleration that a torque says for a speed.
-fn torque_percent(torque: u64, speed: u128) -> u128 {
-    let step = speed.saturating_sub(1) / 125_000;
-    (torque as u128 >> (8 * 7u128.saturating_sub(step))) % 256
 }
 
 /// A block's numbers.

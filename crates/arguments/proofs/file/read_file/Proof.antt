@@ -1,13 +1,17 @@
 -- `arguments::file::read_file` meets its contract: the bytes are those of `read_from`.
-use Rattle.streams.proofs.Within.{bytes-within}
+use mathlib.Core.Path.{sym, subst}
+use lib.ListN.{length}
+use Rattle.arguments.specs.Files.{Within}
+use Rattle.arguments.proofs.Read.{file-within}
 use borrow.Author.Needs.{needs}
 use Rattle.arguments.proofs.file.read_file.Statement.{statement}
 use Rattle.arguments.proofs.file.read_file.Tie as tie
 
 returns-2 : tie.Need-returns-2
 returns-2 c =
-    let i = c .before in
-    bytes-within (i .input .given .1) (i .before .before .before .before .before .read-from .ensures)
+    let r = c .before .before .before .before in
+    let room = length (r .read-from .last .1 .0) in
+    subst (Within room) (sym (c .file-of .ensures)) (file-within (r .read-from .result) room (r .read-from .ensures))
 
 pub read-file-spec : {M : Type 1} → statement M
 read-file-spec =
@@ -17,9 +21,6 @@ read-file-spec =
     (λ c. search needs)
     (λ c κs. search needs)
     (λ c κs. search needs)
+    (λ c κs. search needs)
     (λ c. search needs)
-    (λ c. search needs)
-    (λ c. search needs)
-    returns-2
-    (λ c. search needs)
-    (λ c. search needs))
+    returns-2)
