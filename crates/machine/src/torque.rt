@@ -25,7 +25,7 @@ pub const MOST_PERCENT: u64 = 100;
 const BUILT_IN: u64 = 0x6464_5A50_463C_3228;
 
 // Width of a torque step, µm/s: the first ends at this speed.
-const STEP: u64 = 125_000;
+const STEP: u32 = 125_000;
 
 // The machine with these limits and the built-in torque.
 pub(crate) fn built_in(l: Limits) -> Machine
@@ -74,11 +74,12 @@ pub fn with_steps(l: Limits, steps: &[u8]) -> MachineAnswer
     })
 }
 
-// Percent of the acceleration that the motors give at a block speed.
+// Percent of the acceleration that the motors give at a block speed: the byte of its step, shifted to the top of the number.
+// The step is worked out in 32 bits, where the division costs one product.
 pub(crate) fn torque_percent(torque: u64, speed: u64) -> u64
     requires { ⌜ speed ≤ mostFeed ⌝ }
     ensures { λ r. ⌜ (r ≡ torquePercent torque speed) × (r < 256) ⌝ }
 {
-    let step = less(speed, 1) / STEP;
-    (torque >> (8 * (7 - step))) % 256
+    let step = less(speed, 1) as u32 / STEP;
+    (torque << (8 * step)) >> 56
 }
