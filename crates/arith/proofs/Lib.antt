@@ -5,3 +5,4 @@ pub mod QuotientLaws
 pub mod RootLaws
 pub mod SignedLaws
 pub mod Squares
+pub mod Tests

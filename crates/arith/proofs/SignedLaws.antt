@@ -41,7 +41,7 @@ pub magnitude-below : (z : ℤ) → SFits w64 z → natAbs z ≤ 2 ^ 63
 magnitude-below (pos n) f = omega (arith, f .sfits)
 magnitude-below (negsuc n) f = omega (arith, f .sfits)
 
-natAbs-neg : (z : ℤ) → natAbs (negℤ z) ≡ natAbs z
+pub natAbs-neg : (z : ℤ) → natAbs (negℤ z) ≡ natAbs z
 natAbs-neg (pos zero) = refl
 natAbs-neg (pos (suc n)) = refl
 natAbs-neg (negsuc n) = refl
@@ -66,6 +66,10 @@ natAbs-sum (pos a) (pos b) = le-refl (a + b)
 natAbs-sum (pos a) (negsuc b) = natAbs-difference a (suc b)
 natAbs-sum (negsuc a) (pos b) = omega (arith, natAbs-difference b (suc a))
 natAbs-sum (negsuc a) (negsuc b) = omega arith
+
+-- the magnitude of a difference
+pub natAbs-minus : (x y : ℤ) → natAbs (x -ℤ y) ≤ natAbs x + natAbs y
+natAbs-minus x y = omega (arith, natAbs-sum x (negℤ y), natAbs-neg y)
 
 -- the sign that the machine sees is the number's
 pub sign-back : {z : ℤ} {b : Bool} → SFits w64 z → ltZ (readBack z) (pos 0) ≡ b → ltZ z (pos 0) ≡ b

@@ -16,7 +16,7 @@ use Rattle.fields.specs.Layouts.{joined}
 use Rattle.machine.specs.Checks.{limitsWithin, limitsRefusal, greatestMove, blockRefusal}
 use Rattle.machine.specs.Line.{spansAfter, spansOf}
 use Rattle.line.specs.Blocks.{lineAnswer, lineAfter, lineAnswers}
-use Rattle.machine.proofs.Tests.{both}
+use Rattle.arith.proofs.Tests.{both}
 use Rattle.cases.specs.Table.{Case, Holds, done, also, table}
 
 -- two lists have the same numbers

@@ -22,6 +22,8 @@ refusal-above why.Empty = omega arith
 refusal-above why.Ragged = omega arith
 refusal-above why.Many = omega arith
 refusal-above why.List = omega arith
+refusal-above why.Word = omega arith
+refusal-above why.Number = omega arith
 refusal-above why.Steps = omega arith
 
 module _ {A : Type 0} (a b : A) where

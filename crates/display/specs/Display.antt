@@ -19,6 +19,8 @@ refusalNumber why.Empty = 8
 refusalNumber why.Ragged = 9
 refusalNumber why.Many = 10
 refusalNumber why.List = 11
+refusalNumber why.Word = 12
+refusalNumber why.Number = 13
 refusalNumber why.Steps = 14
 
 -- a check's answer is a number; 0 says that it passed

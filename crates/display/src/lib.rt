@@ -15,6 +15,8 @@ pub enum Refusal {
     Ragged,
     Many,
     List,
+    Word,
+    Number,
     Steps,
 }
 
@@ -40,6 +42,8 @@ pub fn refusal_number(why: Refusal) -> u64
         Refusal::Ragged => 9,
         Refusal::Many => 10,
         Refusal::List => 11,
+        Refusal::Word => 12,
+        Refusal::Number => 13,
         Refusal::Steps => 14,
     }
 }

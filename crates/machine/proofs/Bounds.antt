@@ -9,7 +9,7 @@ use lib.Dec.{eqb, lit<}
 use Rattle.display.proofs.Answers.{next-check, picked}
 use Rattle.arith.proofs.RootLaws.{root-is}
 use Rattle.arith.proofs.Squares.{square-less}
-use Rattle.machine.proofs.Tests.{both}
+use Rattle.arith.proofs.Tests.{both}
 use Rattle.machine.specs.Ranges.{mostAccel, mostSpeed, mostJump, mostChord, leastTick, mostTick, mostMove, mostFeed, mostRadius, mostMark}
 use Rattle.machine.specs.Checks.{within, axesWithin, limitsWithin, limitsRefusal, movesOf, greatestMove, blockRefusal}
 use Rattle.machine.specs.Numbers.{AxesBelow, LimitsBelow, unit, lengthFrom}

@@ -11,5 +11,4 @@ pub mod RampLaws
 pub mod Rampables
 pub mod Runs
 pub mod Spans
-pub mod Tests
 pub mod TorqueLaws

@@ -6,7 +6,7 @@ use borrow.Author.Tests.{leb-true, ltb-true, le-leb, lt-ltb}
 use lib.Dec.{leb}
 use Rattle.machine.specs.Numbers.{Rampable, sized, rampable}
 use Rattle.machine.specs.declared.Numbers.{Numbers}
-use Rattle.machine.proofs.Tests.{both}
+use Rattle.arith.proofs.Tests.{both}
 
 -- what the first part of the test says
 pub record Sized (n : Numbers) (entry exit : ℕ) : Type 0 where

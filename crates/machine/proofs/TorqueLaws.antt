@@ -24,7 +24,7 @@ use Rattle.machine.specs.Meaning.{StepsFit, StepsAccepted, noneLoaded, f
 use Rattle.machine.specs.declared.Limits.{Limits}
 use Rattle.machine.specs.declared.Block.{Block}
 use Rattle.machine.proofs.Bounds.{in-range}
-use Rattle.machine.proofs.Tests.{both}
+use Rattle.arith.proofs.Tests.{both}
 use Rattle.machine.proofs.AxisLaws.{accel-allowed, speed-largest}
 
 -- percentages by index: each from 1 to `most`, and none above the one before it

@@ -1,5 +1,5 @@
 -- What a test that is made of several says.
-use mathlib.Core.Path.{_≡_, refl}
+use mathlib.Core.Path.{_≡_, refl, ap}
 use mathlib.Core.Bool.{Bool, true, false, _&&_}
 use Prim.Native.Nat.{ℕ}
 use native.Mathlib.Omega.{arith}
@@ -12,3 +12,14 @@ both false b e = (e, absurd (differ e))
   where
     differ : false ≡ true → ⊥
     differ p = let z : _≡_ {A = ℕ} 0 1 = cc in omega arith
+
+-- a test of two that fails by either, and one that both meet
+pub fails-first : {a : Bool} (b : Bool) → a ≡ false → a && b ≡ false
+fails-first {a} b e = ap (λ (t : Bool). t && b) e
+
+pub fails-second : (a : Bool) {b : Bool} → b ≡ false → a && b ≡ false
+fails-second true e = e
+fails-second false e = refl
+
+pub meets : {a b : Bool} → a ≡ true → b ≡ true → a && b ≡ true
+meets e f = λ i. e i && f i

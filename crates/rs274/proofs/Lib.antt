@@ -1,0 +1,1 @@
+-- The laws of positions, texts and their records.

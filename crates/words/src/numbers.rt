@@ -1,0 +1,110 @@
+// The number of a word, in ten-thousandths.
+ghost use mathlib.Core.Path.{_≡_};
+ghost use Prim.Native.Nat.{_-_, _^_, _<_, _≤_};
+ghost use lib.ListN.{length};
+ghost use Rattle.text.specs.Text.{OnlyDigits, value};
+ghost use Rattle.words.specs.Number.{afterSign, mostDecimals, mostDigits, numberIn, ofDecimals, withDecimals};
+use crate::Number;
+use crate::bytes::digits;
+use arith::signed::signed_by;
+use fields::wide;
+
+// Most digits before the point and behind it, and the parts of 1 in which numbers are counted.
+const MOST_DIGITS: usize = 5;
+
+const MOST_DECIMALS: usize = 4;
+
+pub const PARTS: u64 = 10_000;
+
+// The number that at most five digits write.
+fn value_of(s: &[u8]) -> u64
+    requires { ⌜ OnlyDigits (now s) × (length (now s) ≤ mostDigits) ⌝ }
+    ensures { λ r. ⌜ (r ≡ value (now (s .entry))) × (r < 100_000) ⌝ }
+{
+    let mut number: u64 = 0;
+    let mut i: usize = 0;
+    while i < s.len() {
+        number = number * 10 + (wide(s[i]) - 48);
+        i += 1;
+    }
+    number
+}
+
+// What the last of n decimals counts, ten-thousandths.
+fn scale(n: usize) -> u64
+    requires { ⌜ n ≤ mostDecimals ⌝ }
+    ensures { λ r. ⌜ (r ≡ 10 ^ (mostDecimals - n)) × (r ≤ 10_000) ⌝ }
+{
+    if n == 4 {
+        return 1;
+    }
+    if n == 3 {
+        return 10;
+    }
+    if n == 2 {
+        return 100;
+    }
+    if n == 1 { 1_000 } else { 10_000 }
+}
+
+// The number with a sign, of whole digits that write `whole` and of decimals: one to four digits alone.
+fn of_decimals(negative: bool, whole: u64, s: &[u8]) -> Number
+    requires { ⌜ whole < 100_000 ⌝ }
+    ensures { λ r. ⌜ r ≡ ofDecimals negative whole (now (s .entry)) ⌝ }
+{
+    if s.len() == 0 {
+        return Number::Bad;
+    }
+    if MOST_DECIMALS < s.len() {
+        return Number::Bad;
+    }
+    if digits(s) < s.len() {
+        return Number::Bad;
+    }
+    let parts = value_of(s) * scale(s.len());
+    Number::Of(signed_by(negative, whole * PARTS + parts))
+}
+
+// The same with what follows the whole digits: nothing, or a point and decimals.
+fn with_decimals(negative: bool, whole: u64, rest: &[u8]) -> Number
+    requires { ⌜ whole < 100_000 ⌝ }
+    ensures { λ r. ⌜ r ≡ withDecimals negative whole (now (rest .entry)) ⌝ }
+{
+    if rest.len() == 0 {
+        return Number::Of(signed_by(negative, whole * PARTS));
+    }
+    if rest[0] != b'.' {
+        return Number::Bad;
+    }
+    of_decimals(negative, whole, &rest[1..])
+}
+
+// The number with a sign, of what follows the sign.
+fn after_sign(negative: bool, s: &[u8]) -> Number
+    ensures { λ r. ⌜ r ≡ afterSign negative (now (s .entry)) ⌝ }
+{
+    let n = digits(s);
+    if n == 0 {
+        return Number::Bad;
+    }
+    if MOST_DIGITS < n {
+        return Number::Bad;
+    }
+    with_decimals(negative, value_of(&s[..n]), &s[n..])
+}
+
+// The number that a word's numerals write: an optional sign, 1 to 5 digits, and optionally a point with 1 to 4 digits.
+pub fn read_number(s: &[u8]) -> Number
+    ensures { λ r. ⌜ r ≡ numberIn (now (s .entry)) ⌝ }
+{
+    if s.len() == 0 {
+        return Number::Bad;
+    }
+    if s[0] == b'-' {
+        return after_sign(true, &s[1..]);
+    }
+    if s[0] == b'+' {
+        return after_sign(false, &s[1..]);
+    }
+    after_sign(false, s)
+}
