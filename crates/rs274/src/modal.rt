@@ -142,7 +142,10 @@ fn rounded(position: i64) -> i64
     requires { ⌜ natAbs position < 2 ^ 41 ⌝ }
     ensures { λ r. ⌜ r ≡ roundedOf position ⌝ }
 {
-    signed_by(position < 0, (magnitude(position) + HUNDREDTHS / 2) / HUNDREDTHS)
+    signed_by(
+        position < 0,
+        (magnitude(position) + HUNDREDTHS / 2) / HUNDREDTHS,
+    )
 }
 
 // The move on an axis between two positions, µm.

@@ -4,3 +4,4 @@ pub mod LineLaws
 pub mod PieceLaws
 pub mod NumberLaws
 pub mod WordLaws
+pub mod SlotLaws

@@ -20,7 +20,7 @@ front b text e = go (eqb b lineFeed)
   where
     go : (x : Bool)
         → elim x [ true ↦ [] ∷ linesOf text | false ↦ inFront b (linesOf text) ]
-            ≡ elim (not x) [ true ↦ b ∷ leading inLine text | false ↦ [] ] ∷ linesOf (drop 1 (elim (not x) [ true ↦ behind inLine text | false ↦ b ∷ text ]))
+        ≡ elim (not x) [ true ↦ b ∷ leading inLine text | false ↦ [] ] ∷ linesOf (drop 1 (elim (not x) [ true ↦ behind inLine text | false ↦ b ∷ text ]))
     go true = refl
     go false = e
 

@@ -53,7 +53,7 @@ word-from c n (b ∷ t) = go (numeral b) refl (word-from c (n ++ b ∷ []) t)
   where
     go : (x : Bool) → numeral b ≡ x → piecesFrom (begun c (n ++ b ∷ [])) t ≡ word c ((n ++ b ∷ []) ++ leading numeral t) ∷ piecesOf (behind numeral t)
         → piecesFrom (begun c n) (b ∷ t)
-            ≡ word c (n ++ elim x [ true ↦ b ∷ leading numeral t | false ↦ [] ]) ∷ piecesOf (elim x [ true ↦ behind numeral t | false ↦ b ∷ t ])
+        ≡ word c (n ++ elim x [ true ↦ b ∷ leading numeral t | false ↦ [] ]) ∷ piecesOf (elim x [ true ↦ behind numeral t | false ↦ b ∷ t ])
     go true h more = pieces-by number (begun c n) b t (rw h) ∙ more ∙ (λ i. word c (append-assoc n (b ∷ []) (leading numeral t) i) ∷ piecesOf (behind numeral t))
     go false h more = ends c n b t (kindOf b) refl h ∙ (λ i. word c (sym (append-nil n) i) ∷ piecesOf (b ∷ t))
 

@@ -4,14 +4,17 @@ use mathlib.Core.Bool.{Bool, true, false}
 use mathlib.Core.List.{List, _∷_, []}
 use Prim.Native.Nat.{ℕ, suc, _+_, _≤_, _<_}
 use native.Mathlib.Omega.{arith}
-use lib.ListN.{length, take, drop, getD}
+use lib.ListN.{length, take, drop, getD, length-drop}
 use lib.Seq.{drop-cons, drop-drop}
-use Rattle.display.specs.Display.{Outcome, given, refused}
+use Rattle.display.specs.Display.{refusalNumber, Outcome, given, refused}
+use Rattle.display.specs.declared.Refusal.{Refusal}
+use Rattle.display.specs.declared.Checked.the-variants.{Passed, Refused}
 use Rattle.text.specs.Text.{space}
 use Rattle.words.specs.Leading.{leading, behind}
 use Rattle.words.specs.Pieces.{Piece, word, stray, capital, numeral, piecesOf}
+use Rattle.words.specs.Steps.{Puts}
 use Rattle.words.specs.Words.{Words, Scan, scan, withWord, withPieces}
-use Rattle.words.proofs.LeadingLaws.{take-leading, drop-leading}
+use Rattle.words.proofs.LeadingLaws.{take-leading, drop-leading, length-leading}
 use Rattle.words.proofs.PieceLaws.{pieces-space, pieces-word, pieces-stray}
 
 -- A line's next byte, and the numerals behind it where it is a capital, behind words that are right.
@@ -57,3 +60,18 @@ module _ (w : Words) (s : List ℕ) (h : 0 < length s) where
 
     pub step-faulty : {k : ℕ} → withWord b (take n (drop 1 s)) w ≡ refused k → withPieces (piecesOf s) w ≡ scan k w
     step-faulty q = leads-word q
+
+    -- by what putting the word answers
+    pub step-passed : (after : Words) (o : Outcome ℕ Words) → withWord b (take n (drop 1 s)) w ≡ o → Puts o w Passed after
+        → withPieces (piecesOf (drop (n + 1) s)) after ≡ withPieces (piecesOf s) w
+    step-passed after (given v) q p = ap (withPieces (piecesOf (drop (n + 1) s))) p ∙ step-word q
+    step-passed after (refused k) q p = absurd p
+
+    pub step-refused : (why : Refusal) (after : Words) (o : Outcome ℕ Words) → withWord b (take n (drop 1 s)) w ≡ o → Puts o w (Refused why) after
+        → withPieces (piecesOf s) w ≡ scan (refusalNumber why) after
+    step-refused why after (given v) q p = absurd p
+    step-refused why after (refused k) q p = let number = sym (p .0) in let words = sym (p .1) in step-faulty q ∙ (λ i. scan (number i) (words i))
+
+    -- the numerals lie in the line
+    pub within : n + 1 ≤ length s
+    within = omega (arith, count, length-leading numeral (drop 1 s), length-drop 1 s, h)

@@ -7,6 +7,8 @@ use lib.IntN.{ℤ}
 use lib.ListN.{length, drop}
 use Rattle.display.specs.Display.{checkedMeans, refusalNumber, Outcome, given, refused}
 use Rattle.display.specs.declared.Checked.{Checked}
+use Rattle.display.specs.declared.Checked.the-variants.{Passed}
+use Rattle.display.specs.declared.Checked.the-variants as checked
 use Rattle.words.specs.Pieces.{piecesOf}
 use Rattle.words.specs.Words.{Words, wordsIn, slots, Scan, scan, withPieces}
 use Rattle.words.specs.declared.Step.{Step}
@@ -19,8 +21,10 @@ pub record Sized (stands : List Bool) (values : List ℤ) : Type 0 where
 
 -- putting a word answers r and leaves the words so: as they are with it, or as they were
 abbrev pub Puts : Outcome ℕ Words → (before : Words) → Checked → (after : Words) → Type 0
-Puts (given v) before r after = (checkedMeans r ≡ 0) × (after ≡ v)
-Puts (refused n) before r after = (checkedMeans r ≡ n) × (after ≡ before)
+Puts (given v) before Passed after = after ≡ v
+Puts (given v) before (checked.Refused why) after = ⊥
+Puts (refused n) before Passed after = ⊥
+Puts (refused n) before (checked.Refused why) after = (refusalNumber why ≡ n) × (after ≡ before)
 
 -- what is left leads to where all leads: some bytes are done, at least one, and the others behind the words that stand now come to the
 -- same as all behind the words before; or all comes to a fault

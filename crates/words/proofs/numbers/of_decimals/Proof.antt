@@ -1,56 +1,65 @@
+-- `words::numbers::of_decimals` meets its contract, by what the tests say of the decimals.
+use mathlib.Core.Path.{_≡_, sym, ap, _∙_}
+use mathlib.Core.List.{List}
+use Prim.Native.Nat.{ℕ, _+_, _*_, _^_, _≤_, _<_}
+use native.Mathlib.Nat.{mul-le-mul}
+use native.Mathlib.Omega.{arith}
+use lib.ListN.{length}
 use borrow.Author.Needs.{needs}
+use Rattle.arith.specs.Signed.{signedBy}
+use mir.Syntax.{w64}
+use mir.Facts.{toZ-ofZ}
+use Rattle.words.specs.Leading.{leading}
+use Rattle.words.specs.Number.{parts}
+use Rattle.words.specs.Pieces.{digit}
+use Rattle.words.specs.declared.Number.the-variants.{Of}
+use Rattle.words.proofs.LeadingLaws.{length-leading}
+use Rattle.words.proofs.NumberLaws.{all-digits, decimals-few, decimals-many, decimals-other, decimals-are}
 use Rattle.words.proofs.numbers.of_decimals.Statement.{statement}
 use Rattle.words.proofs.numbers.of_decimals.Tie as tie
-use Rattle.words.proofs.numbers.of_decimals.Reads as reads
-use Rattle.words.proofs.numbers.of_decimals.Lts as lts
-use Rattle.arith.proofs.signed.signed_by.Reads as signed-by-reads
-use Rattle.words.proofs.bytes.digits.Reads as digits-reads
-use Rattle.words.proofs.numbers.scale.Reads as scale-reads
-use Rattle.words.proofs.numbers.value_of.Reads as value-of-reads
 
--- src/numbers.rt:56:9
 returns : tie.Need-returns
-returns c = ?
+returns c = sym (decimals-few _ _ _ (c .if1 .taken))
 
--- src/numbers.rt:59:9
 returns-2 : tie.Need-returns-2
-returns-2 c = ?
+returns-2 c = sym (decimals-many _ _ _ (c .if2 .taken))
 
--- src/numbers.rt:61:8
-digits-requires : tie.Need-digits-requires
-digits-requires c κs = search needs
-
--- src/numbers.rt:62:9
 returns-3 : tie.Need-returns-3
-returns-3 c = ?
+returns-3 c = sym (decimals-other _ _ _ (omega (arith, c .before .digits .ensures, c .if3 .taken)))
 
--- src/numbers.rt:64:17
+-- the bytes are digits alone
+module _ (c : tie.Else3) where
+  abbrev s : List ℕ
+  s = c .before .before .before .before .before .args .s .now
+
+  all : length (leading digit s) ≡ length s
+  all = omega (arith, length-leading digit s, c .before .digits .ensures, c .if3 .left)
+
 value-of-requires : tie.Need-value-of-requires
-value-of-requires c κs = search needs
+value-of-requires c κs = (all-digits (s c) (all c), omega (arith, c .before .before .if2 .left))
 
--- src/numbers.rt:64:31
-scale-requires : tie.Need-scale-requires
-scale-requires c κs = search needs
+-- what the decimals add is below 10^9
+product : (a b : ℕ) → a < 100_000 → b ≤ 10_000 → a * b ≤ 100_000 * 10_000
+product a b h g = let small : a ≤ 100_000 = omega arith in mul-le-mul small g
 
--- src/numbers.rt:64:17
 mul-parts : tie.Need-mul-parts
-mul-parts c = search needs
+mul-parts c = record { fits = omega (arith, product _ _ (c .before .value-of .ensures .1) (c .scale .ensures .1)) }
 
--- src/numbers.rt:65:36
-mul-signed-by : tie.Need-mul-signed-by
-mul-signed-by c = search needs
-
--- src/numbers.rt:65:36
 add-signed-by : tie.Need-add-signed-by
-add-signed-by c = search needs
+add-signed-by c = record { fits = omega (arith, product _ _ (c .before .value-of .ensures .1) (c .scale .ensures .1)) }
 
--- src/numbers.rt:65:16
 signed-by-requires : tie.Need-signed-by-requires
-signed-by-requires c κs = search needs
+signed-by-requires c κs = omega (arith, product _ _ (c .before .value-of .ensures .1) (c .scale .ensures .1))
 
--- src/numbers.rt:51:1
 returns-4 : tie.Need-returns-4
-returns-4 c = ?
+returns-4 c =
+    let done = c .before .before .before in
+    let a = done .before .before .before .before .before .args in
+    let result = toZ-ofZ {w = w64} (record { sfits = c .signed-by .ok }) ∙ c .signed-by .ensures in
+    let value = c .before .before .value-of .ensures .0 in
+    let scale = c .before .scale .ensures .0 in
+    ap Of (result ∙ (λ i. signedBy (a .negative) (a .whole * parts + value i * scale i)))
+    ∙ sym (decimals-are (a .negative) (a .whole) (a .s .now) (omega (arith, done .before .before .before .if1 .left)) (omega (arith, done .before .before .if2 .left)) (all done))
 
 pub of-decimals-spec : {M : Type 1} → statement M
 of-decimals-spec =
@@ -58,12 +67,12 @@ of-decimals-spec =
     (tie.spec
     returns
     returns-2
-    digits-requires
+    (λ c κs. search needs)
     returns-3
     value-of-requires
-    scale-requires
+    (λ c κs. search needs)
     mul-parts
-    mul-signed-by
+    (λ c. search needs)
     add-signed-by
     signed-by-requires
     returns-4)

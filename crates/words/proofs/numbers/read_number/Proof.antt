@@ -1,86 +1,56 @@
+-- `words::numbers::read_number` meets its contract, by the sign.
+use mathlib.Core.Path.{_≡_, sym, ap, _∙_}
+use mathlib.Core.Bool.{true, false}
+use native.Mathlib.Nat.{le-of-eq}
+use native.Mathlib.Omega.{arith}
+use lib.ListN.{length, drop, length-drop}
+use lib.Seq.{take-all}
 use borrow.Author.Needs.{needs}
+use Rattle.words.specs.Number.{afterSign}
+use Rattle.words.proofs.NumberLaws.{number-none, number-minus, number-plus, number-unsigned}
 use Rattle.words.proofs.numbers.read_number.Statement.{statement}
 use Rattle.words.proofs.numbers.read_number.Tie as tie
-use Rattle.words.proofs.numbers.read_number.Reads as reads
-use Rattle.words.proofs.numbers.read_number.Lts as lts
-use Rattle.words.proofs.numbers.after_sign.Reads as after-sign-reads
 
--- src/numbers.rt:101:9
 returns : tie.Need-returns
-returns c = ?
+returns c = sym (number-none _ (c .if1 .taken))
 
--- src/numbers.rt:103:8
-shared-slice-read-if2 : tie.Need-shared-slice-read-if2
-shared-slice-read-if2 c = search needs
-
--- src/numbers.rt:104:33
-sub-after-sign : tie.Need-sub-after-sign
-sub-after-sign c = search needs
-
--- src/numbers.rt:104:33
-part-after-sign-start : tie.Need-part-after-sign-start
-part-after-sign-start c = search needs
-
--- src/numbers.rt:104:33
-part-after-sign-end : tie.Need-part-after-sign-end
-part-after-sign-end c = search needs
-
--- src/numbers.rt:104:9
-after-sign-requires : tie.Need-after-sign-requires
-after-sign-requires c κs = search needs
-
--- src/numbers.rt:104:9
 returns-2 : tie.Need-returns-2
-returns-2 c = ?
+returns-2 c =
+    let e = c .before .before in
+    let s = e .before .before .before .before .args .s .now in
+    c .after-sign .ensures ∙ ap (afterSign true) (take-all _ (drop 1 s) (le-of-eq (length-drop 1 s)))
+    ∙ sym (number-minus s (omega (arith, e .before .before .if1 .left)) (e .if2 .taken))
 
--- src/numbers.rt:106:8
-shared-slice-read-if3 : tie.Need-shared-slice-read-if3
-shared-slice-read-if3 c = search needs
-
--- src/numbers.rt:107:34
-sub-after-sign-2 : tie.Need-sub-after-sign-2
-sub-after-sign-2 c = search needs
-
--- src/numbers.rt:107:34
-part-after-sign-start-2 : tie.Need-part-after-sign-start-2
-part-after-sign-start-2 c = search needs
-
--- src/numbers.rt:107:34
-part-after-sign-end-2 : tie.Need-part-after-sign-end-2
-part-after-sign-end-2 c = search needs
-
--- src/numbers.rt:107:9
-after-sign-requires-2 : tie.Need-after-sign-requires-2
-after-sign-requires-2 c κs = search needs
-
--- src/numbers.rt:107:9
 returns-3 : tie.Need-returns-3
-returns-3 c = ?
+returns-3 c =
+    let e = c .before .before in
+    let s = e .before .before .before .before .before .before .args .s .now in
+    c .after-sign2 .ensures ∙ ap (afterSign false) (take-all _ (drop 1 s) (le-of-eq (length-drop 1 s)))
+    ∙ sym (number-plus s (omega (arith, e .before .before .before .before .if1 .left)) (e .if3 .taken))
 
--- src/numbers.rt:109:5
-after-sign-requires-3 : tie.Need-after-sign-requires-3
-after-sign-requires-3 c κs = search needs
-
--- src/numbers.rt:97:1
 returns-4 : tie.Need-returns-4
-returns-4 c = ?
+returns-4 c =
+    let e = c .before in
+    let s = e .before .before .before .before .before .before .args .s .now in
+    c .after-sign3 .ensures
+    ∙ sym (number-unsigned s (omega (arith, e .before .before .before .before .if1 .left)) (e .before .before .if2 .left) (e .if3 .left))
 
 pub read-number-spec : {M : Type 1} → statement M
 read-number-spec =
     tie.close
     (tie.spec
     returns
-    shared-slice-read-if2
-    sub-after-sign
-    part-after-sign-start
-    part-after-sign-end
-    after-sign-requires
+    (λ c. search needs)
+    (λ c. search needs)
+    (λ c. search needs)
+    (λ c. search needs)
+    (λ c κs. search needs)
     returns-2
-    shared-slice-read-if3
-    sub-after-sign-2
-    part-after-sign-start-2
-    part-after-sign-end-2
-    after-sign-requires-2
+    (λ c. search needs)
+    (λ c. search needs)
+    (λ c. search needs)
+    (λ c. search needs)
+    (λ c κs. search needs)
     returns-3
-    after-sign-requires-3
+    (λ c κs. search needs)
     returns-4)

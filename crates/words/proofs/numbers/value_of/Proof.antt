@@ -47,8 +47,7 @@ add-number c = record { fits = omega (arith, digit c, so-far (c .before .before 
 loop-again : tie.Need-loop-again Inv-loop μ-loop
 loop-again c =
     let l = loop c .loop in
-    let s = loop c .before .before .args .s .now in
-    (
+    let s = loop c .before .before .args .s .now in (
       omega arith,
       (
         rw (c .wide .ensures) (value-below (l .number) (getD s (l .i) 0) (l .i) (l .inv .1 .0) (rw (c .wide .ensures) at (digit c .1))),

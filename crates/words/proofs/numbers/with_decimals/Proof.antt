@@ -1,62 +1,48 @@
+-- `words::numbers::with_decimals` meets its contract: nothing follows, another byte than the point, or decimals.
+use mathlib.Core.Path.{_≡_, sym, ap, _∙_}
+use native.Mathlib.Nat.{le-of-eq}
+use native.Mathlib.Omega.{arith}
+use lib.ListN.{length, drop, length-drop}
+use lib.Seq.{take-all}
 use borrow.Author.Needs.{needs}
+use mir.Syntax.{w64}
+use mir.Facts.{toZ-ofZ}
+use Rattle.words.specs.Number.{ofDecimals}
+use Rattle.words.specs.declared.Number.the-variants.{Of}
+use Rattle.words.proofs.NumberLaws.{rest-none, rest-other, rest-point}
 use Rattle.words.proofs.numbers.with_decimals.Statement.{statement}
 use Rattle.words.proofs.numbers.with_decimals.Tie as tie
-use Rattle.words.proofs.numbers.with_decimals.Reads as reads
-use Rattle.words.proofs.numbers.with_decimals.Lts as lts
-use Rattle.arith.proofs.signed.signed_by.Reads as signed-by-reads
-use Rattle.words.proofs.numbers.of_decimals.Reads as of-decimals-reads
 
--- src/numbers.rt:74:47
-mul-signed-by : tie.Need-mul-signed-by
-mul-signed-by c = search needs
-
--- src/numbers.rt:74:27
-signed-by-requires : tie.Need-signed-by-requires
-signed-by-requires c κs = search needs
-
--- src/numbers.rt:74:9
 returns : tie.Need-returns
-returns c = ?
+returns c =
+    ap Of (toZ-ofZ {w = w64} (record { sfits = c .signed-by .ok }) ∙ c .signed-by .ensures)
+    ∙ sym (rest-none _ _ (c .before .before .before .args .rest .now) (c .before .if1 .taken))
 
--- src/numbers.rt:76:8
-shared-slice-read-if2 : tie.Need-shared-slice-read-if2
-shared-slice-read-if2 c = search needs
-
--- src/numbers.rt:77:9
 returns-2 : tie.Need-returns-2
-returns-2 c = ?
+returns-2 c =
+    let a = c .before .before .before .before .args in
+    sym (rest-other _ _ (a .rest .now) (omega (arith, c .before .before .if1 .left)) (c .if2 .taken))
 
--- src/numbers.rt:79:34
-sub-of-decimals : tie.Need-sub-of-decimals
-sub-of-decimals c = search needs
-
--- src/numbers.rt:79:34
-part-of-decimals-start : tie.Need-part-of-decimals-start
-part-of-decimals-start c = search needs
-
--- src/numbers.rt:79:34
-part-of-decimals-end : tie.Need-part-of-decimals-end
-part-of-decimals-end c = search needs
-
--- src/numbers.rt:79:5
-of-decimals-requires : tie.Need-of-decimals-requires
-of-decimals-requires c κs = search needs
-
--- src/numbers.rt:69:1
 returns-3 : tie.Need-returns-3
-returns-3 c = ?
+returns-3 c =
+    let e = c .before .before in
+    let a = e .before .before .before .before .args in
+    let s = a .rest .now in
+    c .of-decimals .ensures
+    ∙ ap (ofDecimals (a .negative) (a .whole)) (take-all _ (drop 1 s) (le-of-eq (length-drop 1 s)))
+    ∙ sym (rest-point _ _ s (omega (arith, e .before .before .if1 .left)) (e .if2 .left))
 
 pub with-decimals-spec : {M : Type 1} → statement M
 with-decimals-spec =
     tie.close
     (tie.spec
-    mul-signed-by
-    signed-by-requires
+    (λ c. search needs)
+    (λ c κs. search needs)
     returns
-    shared-slice-read-if2
+    (λ c. search needs)
     returns-2
-    sub-of-decimals
-    part-of-decimals-start
-    part-of-decimals-end
-    of-decimals-requires
+    (λ c. search needs)
+    (λ c. search needs)
+    (λ c. search needs)
+    (λ c κs. search needs)
     returns-3)

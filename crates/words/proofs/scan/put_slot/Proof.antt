@@ -1,65 +1,79 @@
+-- `words::scan::put_slot` meets its contract, by the slot and what stands there.
+use mathlib.Core.Path.{_≡_, sym, subst, _∙_}
+use Prim.Native.Nat.{ℕ, _<_}
+use native.Mathlib.Omega.{arith}
+use mathlib.Core.Bool.{true}
+use lib.IntN.{ℤ}
+use lib.ListN.{length, set}
+use Rattle.arith.proofs.SignedLaws.{read-back}
+use Rattle.display.specs.declared.Checked.the-variants.{Passed}
 use borrow.Author.Needs.{needs}
+use Rattle.words.specs.Steps.{Puts}
+use Rattle.words.specs.Words.{Words, slots, withSlot, wordsIn}
+use Rattle.words.proofs.SlotLaws.{put-unlisted, in-line, put-taken, put-free}
 use Rattle.words.proofs.scan.put_slot.Statement.{statement}
 use Rattle.words.proofs.scan.put_slot.Tie as tie
-use Rattle.words.proofs.scan.put_slot.Reads as reads
-use Rattle.words.proofs.scan.put_slot.Lts as lts
 
--- src/scan.rt:89:44
-enum-told : tie.Need-enum-told
-enum-told c = search needs
+-- the slot that is named is one of the line's
+module _ (c : tie.After-slot) where
+  abbrev start : tie.Start
+  start = c .before .before
 
--- src/scan.rt:90:18
-enum-known-slot : tie.Need-enum-known-slot
-enum-known-slot c = search needs
+  abbrev words : Words
+  words = wordsIn (start .args .stands .now) (start .args .values .now)
 
--- src/scan.rt:91:16
+  abbrev k : ℕ
+  k = c .slot .given .0 .0
+
+  listed : k < slots
+  listed = in-line (start .args .slot) (start .args .value) words k (c .slot .given .1) (start .pre .1)
+
+  within-stands : k < length (start .args .stands .now)
+  within-stands = subst (λ (n : ℕ). k < n) (sym (start .pre .0 .told)) listed
+
+  within-values : k < length (start .args .values .now)
+  within-values = subst (λ (n : ℕ). k < n) (sym (start .pre .0 .numbers)) listed
+
 slice-read-if1 : tie.Need-slice-read-if1
-slice-read-if1 c = search needs
+slice-read-if1 c = within-stands (c .before .before)
 
--- src/scan.rt:92:17
 returns : tie.Need-returns
-returns c = ?
+returns c =
+    let e = c .before .before .before in
+    put-taken (start e .args .slot) (start e .args .value) _ (k e) (e .slot .given .1) (c .if1 .taken)
 
--- src/scan.rt:94:13
 slice-write-stands : tie.Need-slice-write-stands
-slice-write-stands c = search needs
+slice-write-stands c = within-stands (c .before .before .before)
 
--- src/scan.rt:95:13
 mul-value : tie.Need-mul-value
-mul-value c = search needs
+mul-value c = record { fits = omega (arith, listed (c .before .before .before)) }
 
--- src/scan.rt:95:13
 slice-set-from-value : tie.Need-slice-set-from-value
-slice-set-from-value c = search needs
+slice-set-from-value c = within-values (c .before .before .before)
 
--- src/scan.rt:84:1
 returns-2 : tie.Need-returns-2
-returns-2 c = ?
+returns-2 c = put-unlisted _ _ _ (c .enum-told .given .1)
 
--- src/scan.rt:84:1
-same-length : tie.Need-same-length
-same-length c = search needs
-
--- src/scan.rt:84:1
-same-length-2 : tie.Need-same-length-2
-same-length-2 c = search needs
-
--- src/scan.rt:84:1
 returns-3 : tie.Need-returns-3
-returns-3 c = ?
+returns-3 c =
+    let e = c .before .before .before in
+    let a = start e .args in
+    subst (λ (z : ℤ). Puts (withSlot (a .slot) (a .value) (words e)) (words e) Passed (wordsIn (set (a .stands .now) (k e) true) (set (a .values .now) (k e) z)))
+    (sym (read-back (start e .fits .value)))
+    (put-free (a .slot) (a .value) (words e) (k e) (e .slot .given .1) (c .if1 .left))
 
 pub put-slot-spec : {M : Type 1} → statement M
 put-slot-spec =
     tie.close
     (tie.spec
-    enum-told
-    enum-known-slot
+    (λ c. search needs)
+    (λ c. search needs)
     slice-read-if1
     returns
     slice-write-stands
     mul-value
     slice-set-from-value
     returns-2
-    same-length
-    same-length-2
+    (λ c. search needs)
+    (λ c. search needs)
     returns-3)

@@ -1,58 +1,45 @@
+-- `words::scan::put_word` meets its contract, by what the number and the slot are. From `put-bad` and `put-of`.
+use mathlib.Core.Path.{_≡_, sym, ap, subst, _∙_}
+use lib.IntN.{ℤ}
+use Rattle.arith.proofs.SignedLaws.{field-back}
+use Rattle.words.specs.Steps.{Puts}
+use Rattle.words.specs.Words.{slotOf, withSlot, wordsIn}
 use borrow.Author.Needs.{needs}
+use Rattle.words.proofs.SlotLaws.{put-bad, put-of}
 use Rattle.words.proofs.scan.put_word.Statement.{statement}
 use Rattle.words.proofs.scan.put_word.Tie as tie
-use Rattle.words.proofs.scan.put_word.Reads as reads
-use Rattle.words.proofs.scan.put_word.Lts as lts
-use Rattle.words.proofs.numbers.read_number.Reads as read-number-reads
-use Rattle.words.proofs.scan.put_slot.Reads as put-slot-reads
-use Rattle.words.proofs.scan.slot_of.Reads as slot-of-reads
 
--- src/scan.rt:106:11
-read-number-requires : tie.Need-read-number-requires
-read-number-requires c κs = search needs
-
--- src/scan.rt:107:41
-enum-told : tie.Need-enum-told
-enum-told c = search needs
-
--- src/scan.rt:108:20
-enum-known-value : tie.Need-enum-known-value
-enum-known-value c = search needs
-
--- src/scan.rt:108:55
-slot-of-requires : tie.Need-slot-of-requires
-slot-of-requires c κs = search needs
-
--- src/scan.rt:108:30
-put-slot-requires : tie.Need-put-slot-requires
-put-slot-requires c κs = search needs
-
--- src/scan.rt:102:1
 returns : tie.Need-returns
-returns c = ?
+returns c =
+    let read = c .before .before in
+    put-bad _ _ _ (sym (read .read-number .ensures) ∙ c .enum-told .given .1)
 
--- src/scan.rt:102:1
-same-length : tie.Need-same-length
-same-length c = search needs
-
--- src/scan.rt:102:1
-same-length-2 : tie.Need-same-length-2
-same-length-2 c = search needs
-
--- src/scan.rt:102:1
 returns-2 : tie.Need-returns-2
-returns-2 c = ?
+returns-2 c =
+    let put = c .before .before .before in
+    let slot = put .before in
+    let known = slot .before .before .before in
+    let value = known .before in
+    let read = value .before .before in
+    let a = read .before .before .before .args in
+    let w = wordsIn (a .stands .now) (a .values .now) in
+    let after = wordsIn (put .put-slot .last .0) (put .put-slot .last .1 .0) in
+    let z = value .value .given .0 .0 in
+    let back = field-back z (known .known-told .given .0 .1) in
+    put-of (a .letter) (a .numerals .now) w (put .put-slot .result) after z (slot .slot-of .result) (sym (read .read-number .ensures) ∙ value .value .given .1)
+    (slot .slot-of .ensures .0 ∙ ap (slotOf (a .letter)) back)
+    (subst (λ (v : ℤ). Puts (withSlot (slot .slot-of .result) v w) w (put .put-slot .result) after) back (put .put-slot .ensures))
 
 pub put-word-spec : {M : Type 1} → statement M
 put-word-spec =
     tie.close
     (tie.spec
-    read-number-requires
-    enum-told
-    enum-known-value
-    slot-of-requires
-    put-slot-requires
+    (λ c κs. search needs)
+    (λ c. search needs)
+    (λ c. search needs)
+    (λ c κs. search needs)
+    (λ c κs. search needs)
     returns
-    same-length
-    same-length-2
+    (λ c. search needs)
+    (λ c. search needs)
     returns-2)

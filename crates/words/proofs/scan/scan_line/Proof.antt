@@ -1,79 +1,119 @@
+-- `words::scan::scan_line` meets its contract: what is still to be read, behind the words that stand, leads to the same end.
+use mathlib.Core.Path.{_≡_, refl, sym, ap, subst, _∙_}
+use mathlib.Core.List.{List, []}
+use Prim.Native.Nat.{ℕ, _+_, _-_, _≤_, _<_}
+use native.Mathlib.Omega.{arith}
+use native.Mathlib.Nat.{le-of-eq}
+use mathlib.Core.Bool.{Bool}
+use lib.IntN.{ℤ}
+use lib.ListN.{length, drop, length-drop}
+use lib.Seq.{take-all, drop-length, drop-drop}
+use Rattle.display.specs.Display.{checkedMeans}
+use Rattle.display.specs.declared.Checked.{Checked}
+use Rattle.display.specs.declared.Checked.the-variants.{Passed, Refused}
 use borrow.Author.Needs.{needs}
+use Rattle.words.specs.Pieces.{piecesOf, piecesFrom}
+use Rattle.words.specs.Steps.{Scanned, Sized, Stepped}
+use Rattle.words.specs.Words.{Scan, Words, scan, withLine, withPieces, wordsIn}
+use Rattle.words.specs.declared.Step.{Step}
+use Rattle.words.specs.declared.Step.the-variants.{Next}
 use Rattle.words.proofs.scan.scan_line.Statement.{statement}
 use Rattle.words.proofs.scan.scan_line.Tie as tie
-use Rattle.words.proofs.scan.scan_line.Reads as reads
-use Rattle.words.proofs.scan.scan_line.Lts as lts
-use Rattle.words.proofs.scan.step.Reads as step-reads
+
+-- nothing is left to read
+all-read : {s : List ℕ} {w : Words} → s ≡ [] → withPieces (piecesOf s) w ≡ scan 0 w
+unfolding withPieces piecesFrom
+all-read {s} {w} e = ap (λ (t : List ℕ). withPieces (piecesOf t) w) e
+
+-- what reading comes to, by its number and its words
+scanned : {result : Scan} {stands : List Bool} {values : List ℤ} (r : Checked) → result ≡ scan (checkedMeans r) (wordsIn stands values) → Sized stands values
+    → Scanned result r stands values
+scanned r e z = record { number = sym (ap (λ (s : Scan). s .number) e); words = sym (ap (λ (s : Scan). s .words) e); sized = z }
 
 abbrev Inv-loop : tie.InvT-loop
-Inv-loop line stands₀ values₀ at₀ stands values at = ?
+Inv-loop line stands₀ values₀ at₀ stands values at =
+    (at ≤ length line) × (Sized stands values × (withPieces (piecesOf (drop at line)) (wordsIn stands values) ≡ withLine line (wordsIn stands₀ values₀)))
 
 abbrev μ-loop : tie.MeasureT-loop
-μ-loop line stands₀ values₀ at₀ stands values at = ?
+μ-loop line stands₀ values₀ at₀ stands values at = length line - at
 
--- src/scan.rt:137:5
 loop-holds : tie.Need-loop-holds Inv-loop μ-loop
-loop-holds c = ?
+unfolding withLine
+loop-holds c = (omega arith, (c .before .before .pre, refl))
 
--- src/scan.rt:138:36
-sub-step : tie.Need-sub-step Inv-loop μ-loop
-sub-step c = search needs
+-- a step from what is left
+module _ (c : tie.After-step Inv-loop μ-loop) where
+  abbrev loop : tie.At-loop Inv-loop μ-loop
+  loop = c .before .before .before .before .before
 
--- src/scan.rt:138:36
-part-step-start : tie.Need-part-step-start Inv-loop μ-loop
-part-step-start c = search needs
+  abbrev line : List ℕ
+  line = loop .before .before .before .args .line .now
 
--- src/scan.rt:138:36
-part-step-end : tie.Need-part-step-end Inv-loop μ-loop
-part-step-end c = search needs
+  abbrev at : ℕ
+  at = loop .loop .at
 
--- src/scan.rt:138:15
-step-requires : tie.Need-step-requires Inv-loop μ-loop
-step-requires c κs = search needs
+  abbrev after : Words
+  after = wordsIn (c .step .last .0) (c .step .last .1 .0)
 
--- src/scan.rt:139:24
-enum-known-n : tie.Need-enum-known-n Inv-loop μ-loop
-enum-known-n c = search needs
+  stepped : Stepped (wordsIn (loop .loop .stands) (loop .loop .values)) (drop at line) (c .step .result) after
+  stepped =
+      subst (λ (s : List ℕ). Stepped (wordsIn (loop .loop .stands) (loop .loop .values)) s (c .step .result) after)
+      (take-all _ (drop at line) (le-of-eq (length-drop at line))) (c .step .ensures)
 
--- src/scan.rt:139:30
+-- the lists are as long as they were
+sized : (c : tie.After-values Inv-loop μ-loop) → Sized (c .before .before .before .step .last .0) (c .before .before .before .step .last .1 .0)
+sized c =
+    let s = c .before .before .before in
+    let z = s .before .before .before .before .before .loop .inv .1 .0 in
+    record { told = omega (arith, z .told); numbers = omega (arith, z .numbers) }
+
+-- some bytes are done
+module _ (c : tie.After-known-told Inv-loop μ-loop) where
+  abbrev taken : tie.After-step Inv-loop μ-loop
+  taken = c .before .before .before .before .before .before
+
+  abbrev n : ℕ
+  n = c .before .n .given .0 .0
+
+  next : Stepped (wordsIn (loop taken .loop .stands) (loop taken .loop .values)) (drop (at taken) (line taken)) (Next n) (after taken)
+  next =
+      subst (λ (r : Step). Stepped (wordsIn (loop taken .loop .stands) (loop taken .loop .values)) (drop (at taken) (line taken)) r (after taken))
+      (c .before .n .given .1) (stepped taken)
+
+  moved : (1 ≤ n) × (at taken + n ≤ length (line taken))
+  moved = (next .0, omega (arith, next .1 .0, length-drop (at taken) (line taken), loop taken .loop .inv .0))
+
 add-at : tie.Need-add-at Inv-loop μ-loop
-add-at c = search needs
+add-at c = record { fits = omega (arith, moved c) }
 
--- src/scan.rt:137:5
 loop-less : tie.Need-loop-less Inv-loop μ-loop
-loop-less c = search needs
+loop-less c = omega (arith, moved c)
 
--- src/scan.rt:137:5
 loop-again : tie.Need-loop-again Inv-loop μ-loop
-loop-again c = ?
+loop-again c =
+    let s = taken c in (
+      moved c .1,
+      (
+        sized (c .before .before .before),
+        ap (λ (t : List ℕ). withPieces (piecesOf t) (after s)) (sym (drop-drop (n c) (at s) (line s))) ∙ next c .1 .1 ∙ loop s .loop .inv .1 .1,
+      ),
+    )
 
--- src/scan.rt:140:27
-enum-known-why : tie.Need-enum-known-why Inv-loop μ-loop
-enum-known-why c = search needs
-
--- src/scan.rt:140:35
-same-length : tie.Need-same-length Inv-loop μ-loop
-same-length c = search needs
-
--- src/scan.rt:140:35
-same-length-2 : tie.Need-same-length-2 Inv-loop μ-loop
-same-length-2 c = search needs
-
--- src/scan.rt:140:35
 returns : tie.Need-returns Inv-loop μ-loop
-returns c = ?
+returns c =
+    let s = c .before .before .before .before .before .before in
+    let l = loop s .loop in
+    let why = c .before .why .given .0 .0 in
+    let faulty = subst (λ (r : Step). Stepped (wordsIn (l .stands) (l .values)) (drop (at s) (line s)) r (after s)) (c .before .why .given .1) (stepped s) in
+    scanned (Refused why) (sym (l .inv .1 .1) ∙ faulty) (sized (c .before .before .before))
 
--- src/scan.rt:132:1
-same-length-3 : tie.Need-same-length-3 Inv-loop μ-loop
-same-length-3 c = search needs
-
--- src/scan.rt:132:1
-same-length-4 : tie.Need-same-length-4 Inv-loop μ-loop
-same-length-4 c = search needs
-
--- src/scan.rt:132:1
 returns-2 : tie.Need-returns-2 Inv-loop μ-loop
-returns-2 c = ?
+returns-2 c =
+    let l = c .before .loop in
+    let line = c .before .before .before .before .args .line .now in
+    let ended : l .at ≡ length line = omega arith in
+    let none : drop (l .at) line ≡ [] = rw ended (drop-length line) in
+    scanned Passed (sym (l .inv .1 .1) ∙ all-read none) (l .inv .1 .0)
 
 pub scan-line-spec : {M : Type 1} → statement M
 scan-line-spec =
@@ -82,18 +122,18 @@ scan-line-spec =
     Inv-loop
     μ-loop
     loop-holds
-    sub-step
-    part-step-start
-    part-step-end
-    step-requires
-    enum-known-n
+    (λ c. search needs)
+    (λ c. search needs)
+    (λ c. search needs)
+    (λ c κs. search needs)
+    (λ c. search needs)
     add-at
     loop-less
     loop-again
-    enum-known-why
-    same-length
-    same-length-2
+    (λ c. search needs)
+    (λ c. search needs)
+    (λ c. search needs)
     returns
-    same-length-3
-    same-length-4
+    (λ c. search needs)
+    (λ c. search needs)
     returns-2)

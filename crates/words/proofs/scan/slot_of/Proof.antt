@@ -1,51 +1,48 @@
+-- `words::scan::slot_of` meets its contract: the tests are the definition's.
+use mathlib.Core.Path.{_≡_, sym, ap, _∙_}
+use Prim.Native.Nat.{ℕ}
 use borrow.Author.Needs.{needs}
+use borrow.Author.Tests.{ne-eqb}
+use lib.Dec.{lit<}
+use Rattle.arith.proofs.SignedLaws.{read-back}
+use Rattle.words.specs.Words.{slotOf, slotOfG}
 use Rattle.words.proofs.scan.slot_of.Statement.{statement}
 use Rattle.words.proofs.scan.slot_of.Tie as tie
-use Rattle.words.proofs.scan.slot_of.Reads as reads
-use Rattle.words.proofs.scan.slot_of.Lts as lts
-use Rattle.words.proofs.scan.slot_of_g.Reads as slot-of-g-reads
 
--- src/scan.rt:63:9
-slot-of-g-requires : tie.Need-slot-of-g-requires
-slot-of-g-requires c κs = search needs
-
--- src/scan.rt:63:9
 returns : tie.Need-returns
-returns c = ?
+returns c =
+    let s = c .before .before in
+    let slot = c .slot-of-g .ensures in
+    (slot .0 ∙ ap slotOfG (read-back (s .fits .value)) ∙ sym (ap (λ (b : ℕ). slotOf b (s .args .value)) (c .before .if1 .taken)), slot .1)
 
--- src/scan.rt:66:9
 returns-2 : tie.Need-returns-2
-returns-2 c = ?
+returns-2 c = (sym (ap (λ (b : ℕ). slotOf b (c .before .before .args .value)) (c .if2 .taken)), lit< tt)
 
--- src/scan.rt:69:9
 returns-3 : tie.Need-returns-3
-returns-3 c = ?
+returns-3 c = (sym (ap (λ (b : ℕ). slotOf b (c .before .before .before .args .value)) (c .if3 .taken)), lit< tt)
 
--- src/scan.rt:72:9
 returns-4 : tie.Need-returns-4
-returns-4 c = ?
+returns-4 c = (sym (ap (λ (b : ℕ). slotOf b (c .before .before .before .before .args .value)) (c .if4 .taken)), lit< tt)
 
--- src/scan.rt:75:9
 returns-5 : tie.Need-returns-5
-returns-5 c = ?
+returns-5 c = (sym (ap (λ (b : ℕ). slotOf b (c .before .before .before .before .before .args .value)) (c .if5 .taken)), lit< tt)
 
--- src/scan.rt:78:9
 returns-6 : tie.Need-returns-6
-returns-6 c = ?
+returns-6 c = (sym (ap (λ (b : ℕ). slotOf b (c .before .before .before .before .before .before .args .value)) (c .if6 .taken)), lit< tt)
 
--- src/scan.rt:59:1
 returns-7 : tie.Need-returns-7
-returns-7 c = ?
+returns-7 c =
+    let b = c .before .before .before .before .before .before .args .letter in (
+      rw (
+        ne-eqb b 71 (c .before .before .before .before .before .if1 .left),
+        ne-eqb b 78 (c .before .before .before .before .if2 .left),
+        ne-eqb b 88 (c .before .before .before .if3 .left),
+        ne-eqb b 89 (c .before .before .if4 .left),
+        ne-eqb b 90 (c .before .if5 .left),
+        ne-eqb b 70 (c .if6 .left),
+      ),
+      tt,
+    )
 
 pub slot-of-spec : {M : Type 1} → statement M
-slot-of-spec =
-    tie.close
-    (tie.spec
-    slot-of-g-requires
-    returns
-    returns-2
-    returns-3
-    returns-4
-    returns-5
-    returns-6
-    returns-7)
+slot-of-spec = tie.close (tie.spec (λ c κs. search needs) returns returns-2 returns-3 returns-4 returns-5 returns-6 returns-7)
