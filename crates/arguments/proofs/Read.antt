@@ -23,7 +23,7 @@ pub order-fits : (f : FileRead) (room : ℕ) → Within room f → Fits room (or
 order-fits (Bytes n) room h = h
 order-fits (Failed fault) room h = tt
 
--- of the steps, and the part of the list that they are has as many
+-- of an order, and the part of the list that they are has as many
 pub steps-within : {order : Order} {n room : ℕ} → order ≡ Work n → Fits room order → n ≤ room
 steps-within {room = room} e h = subst (Fits room) e h
 

@@ -13,7 +13,7 @@ abbrev pub fileOf : Input → FileRead
 fileOf (input.Bytes n) = Bytes n
 fileOf input.Failed = Failed Unread
 
--- the program's work, with so many bytes of steps; nothing where the file failed
+-- the program's work, with so many bytes of the file; nothing where it failed
 abbrev pub orderOf : FileRead → Order
 orderOf (Bytes n) = Work n
 orderOf (Failed fault) = Done

@@ -5,6 +5,8 @@ use mathlib.Core.List.{List, _∷_, _++_, []}
 use lib.Dec.{ltb, eqb}
 use Rattle.arguments.specs.declared.Fault.{Fault}
 use Rattle.arguments.specs.declared.Fault.the-variants.{Unopened, Unread}
+use Rattle.arguments.specs.declared.Form.{Form}
+use Rattle.arguments.specs.declared.Form.the-variants.{Steps, Name}
 
 -- how a byte is shown in a line: one of the control characters as `?`
 unfoldable pub shownAs : ℕ → ℕ
@@ -34,13 +36,18 @@ advice = 39 ∷ 59 ∷ 32 ∷ 105 ∷ 116 ∷ 32 ∷ 114 ∷ 101 ∷ 97 ∷ 100 
 unfoldable pub wrongLine : (program word : List ℕ) → List ℕ
 wrongLine program word = lineOf program unexpected word advice
 
--- `: '--steps' needs the name of a file, see --help` and a line feed
-unfoldable pub lacking : List ℕ
-lacking = 58 ∷ 32 ∷ 39 ∷ 45 ∷ 45 ∷ 115 ∷ 116 ∷ 101 ∷ 112 ∷ 115 ∷ 39 ∷ 32 ∷ 110 ∷ 101 ∷ 101 ∷ 100 ∷ 115 ∷ 32 ∷ 116 ∷ 104 ∷ 101 ∷ 32 ∷ 110 ∷ 97 ∷ 109 ∷ 101 ∷ 32 ∷ 111 ∷ 102 ∷ 32 ∷ 97 ∷ 32 ∷ 102 ∷ 105 ∷ 108 ∷ 101 ∷ 44 ∷ 32 ∷ 115 ∷ 101 ∷ 101 ∷ 32 ∷ 45 ∷ 45 ∷ 104 ∷ 101 ∷ 108 ∷ 112 ∷ 10 ∷ []
+-- `needs the name of a file, see --help` and a line feed
+abbrev pub needsName : List ℕ
+needsName = 110 ∷ 101 ∷ 101 ∷ 100 ∷ 115 ∷ 32 ∷ 116 ∷ 104 ∷ 101 ∷ 32 ∷ 110 ∷ 97 ∷ 109 ∷ 101 ∷ 32 ∷ 111 ∷ 102 ∷ 32 ∷ 97 ∷ 32 ∷ 102 ∷ 105 ∷ 108 ∷ 101 ∷ 44 ∷ 32 ∷ 115 ∷ 101 ∷ 101 ∷ 32 ∷ 45 ∷ 45 ∷ 104 ∷ 101 ∷ 108 ∷ 112 ∷ 10 ∷ []
 
--- the line of a `--steps` without its file
-unfoldable pub lacksLine : (program : List ℕ) → List ℕ
-lacksLine program = program ++ lacking
+-- what needs it: `: '--steps' ` before that, or `: ` where it is the program
+unfoldable pub lacking : Form → List ℕ
+lacking Steps = 58 ∷ 32 ∷ 39 ∷ 45 ∷ 45 ∷ 115 ∷ 116 ∷ 101 ∷ 112 ∷ 115 ∷ 39 ∷ 32 ∷ needsName
+lacking Name = 58 ∷ 32 ∷ needsName
+
+-- the line of a file's name that is missing
+unfoldable pub lacksLine : (program : List ℕ) → Form → List ℕ
+lacksLine program form = program ++ lacking form
 
 -- `: cannot open '`
 unfoldable pub cannotOpen : List ℕ

@@ -8,8 +8,10 @@ use lib.Dec.{eqb}
 use Rattle.arguments.specs.declared.Asked.{Asked}
 use Rattle.arguments.specs.declared.Asked.the-variants.{Work, Usage, Lacks}
 use Rattle.arguments.specs.declared.Asked.the-variants as asked
+use Rattle.arguments.specs.declared.Form.{Form}
+use Rattle.arguments.specs.declared.Form.the-variants as form
 use Rattle.arguments.specs.declared.Seen.{Seen}
-use Rattle.arguments.specs.declared.Seen.the-variants.{Right, File}
+use Rattle.arguments.specs.declared.Seen.the-variants.{Right, File, Unnamed, Named}
 use Rattle.arguments.specs.declared.Seen.the-variants as seen
 use Rattle.arguments.specs.declared.Order.{Order}
 use Rattle.arguments.specs.declared.Order.the-variants as order
@@ -22,44 +24,79 @@ helpWord = 45 ∷ 45 ∷ 104 ∷ 101 ∷ 108 ∷ 112 ∷ []
 abbrev pub stepsWord : List ℕ
 stepsWord = 45 ∷ 45 ∷ 115 ∷ 116 ∷ 101 ∷ 112 ∷ 115 ∷ []
 
--- A word is one of the two options, or another.
+-- whether a word begins with `-`, as the options do
+abbrev pub dashed : List ℕ → Bool
+dashed [] = false
+dashed (byte ∷ word) = eqb byte 45
+
+-- A word is one of the two options, or plain, which is no option, or another.
 pub data Word : Type 0 where
   help : Word
   steps : Word
+  plain : Word
   other : Word
 
 -- the kind that a number stands for
 abbrev pub wordOf : ℕ → Word
-wordOf kind = cond (eqb kind 1) help (cond (eqb kind 2) steps other)
+wordOf kind = cond (eqb kind 1) help (cond (eqb kind 2) steps (cond (eqb kind 3) plain other))
 
--- the number of a word's kind: it stands for `--help` where the word is that, for `--steps` where it is that, and else
--- for another
+-- the number of a word's kind: it stands for `--help` where the word is that, for `--steps` where it is that, for a plain
+-- word where it does not begin as the options do, and else for another
 pub record Known (word : List ℕ) (kind : ℕ) : Type 0 where
   pub isHelp : wordOf kind ≡ help ↔ word ≡ helpWord
   pub isSteps : wordOf kind ≡ steps ↔ word ≡ stepsWord
+  pub isPlain : wordOf kind ≡ plain ↔ dashed word ≡ false
 
--- What the words from a place on ask for, where those before it are right: whether `--help` is among these, and the
--- place of the steps' file, 0 where `--steps` is not. The first wrong word decides.
+-- What right words ask for: the usage where `--help` is among them, and else this.
+abbrev pub unlessHelp : (helped : Bool) → Asked → Asked
+unlessHelp false r = r
+unlessHelp true r = Usage
+
+-- What the words from a place on ask for of a program that takes `--steps FILE`, where those before it are right: whether
+-- `--help` is among these, and the place of the steps' file, 0 where `--steps` is not. The first wrong word decides.
 unfoldable pub askedFrom : List Word → (place : ℕ) → Bool → (file : ℕ) → Asked
-askedFrom [] place false file = Work file
-askedFrom [] place true file = Usage
+askedFrom [] place helped file = unlessHelp helped (Work file)
 askedFrom (help ∷ words) place false file = askedFrom words (place + 1) true file
 askedFrom (help ∷ words) place true file = asked.Wrong place
 askedFrom (steps ∷ []) place helped zero = Lacks
 askedFrom (steps ∷ name ∷ words) place helped zero = askedFrom words (place + 1 + 1) helped (place + 1)
 askedFrom (steps ∷ words) place helped (suc file) = asked.Wrong place
+askedFrom (plain ∷ words) place helped file = asked.Wrong place
 askedFrom (other ∷ words) place helped file = asked.Wrong place
 
+-- What the words from a place on ask for of a program that needs the name of a file, where those before it are right and do
+-- not name it: whether `--help` is among these. The first wrong word decides; behind the name every word is wrong.
+unfoldable pub namedFrom : List Word → (place : ℕ) → Bool → Asked
+namedFrom [] place helped = unlessHelp helped Lacks
+namedFrom (help ∷ words) place false = namedFrom words (place + 1) true
+namedFrom (help ∷ words) place true = asked.Wrong place
+namedFrom (plain ∷ []) place helped = unlessHelp helped (Work place)
+namedFrom (plain ∷ word ∷ words) place helped = asked.Wrong (place + 1)
+namedFrom (steps ∷ words) place helped = asked.Wrong place
+namedFrom (other ∷ words) place helped = asked.Wrong place
+
+-- What all words ask for of a program of this form, the first at place 1.
+abbrev pub askedIn : Form → List Word → Asked
+askedIn form.Steps words = askedFrom words 1 false 0
+askedIn form.Name words = namedFrom words 1 false
+
 -- What the words ask for whose kinds have these numbers.
-abbrev pub askedOf : List ℕ → Asked
-askedOf kinds = askedFrom (map wordOf kinds) 1 false 0
+abbrev pub askedOf : Form → List ℕ → Asked
+askedOf taken kinds = askedIn taken (map wordOf kinds)
 
 -- The same from a place on, by what was seen of the words before it.
 unfoldable pub askedAfter : Seen → (place : ℕ) → List Word → Asked
 askedAfter (Right helped file) place words = askedFrom words place helped file
 askedAfter (File helped) place [] = Lacks
 askedAfter (File helped) place (name ∷ words) = askedFrom words (place + 1) helped place
+askedAfter (Unnamed helped) place words = namedFrom words place helped
+askedAfter (Named helped file) place [] = unlessHelp helped (Work file)
+askedAfter (Named helped file) place (word ∷ words) = asked.Wrong place
 askedAfter (seen.Wrong first) place words = asked.Wrong first
+
+-- `first` is seen before the first word of a program of this form: whatever the words are, the same is asked for
+abbrev pub Begins : Form → (first : Seen) → Type 0
+Begins taken first = (words : List Word) → askedAfter first 1 words ≡ askedIn taken words
 
 -- `after` is seen once a word of this kind stands at a place where an option is expected: whatever words follow, the same is
 -- asked for

@@ -1,6 +1,7 @@
-// The arguments that a program is started with. The programs know two options, in any order and each at most once: `--help`,
-// which writes the usage, and `--steps FILE`, which names the file of the torque steps. Whatever else is there, and a file
-// that cannot be opened or read, is told in one line on standard error, and the program does nothing.
+// The arguments that a program is started with. Every program knows the option `--help`, which writes the usage. Beside it one
+// form of programs knows `--steps FILE`, which names the file of the torque steps, and the other needs the name of a file behind
+// the options. Options stand in any order, each at most once. Whatever else is there, a name that is missing, and a file that
+// cannot be opened or read, is told in one line on standard error, and the program does nothing.
 pub mod file;
 mod lines;
 mod words;
@@ -28,21 +29,29 @@ pub const STEPS: usize = machine::torque::STEPS + 1;
 
 // What is left to do for a program.
 pub enum Order {
-    // its work: so many bytes of the steps' file stand at the beginning of the list that was lent, none without the option
+    // its work: so many bytes of the file that is named stand at the beginning of the list that was lent, none where none is
     Work(usize),
     // nothing: the usage was written, or what is wrong was told
     Done,
 }
 
+// What a program takes beside the option `--help`.
+enum Form {
+    // the option `--steps FILE`
+    Steps,
+    // behind the options the name of a file, which it needs
+    Name,
+}
+
 // What a program's words ask for.
 enum Asked {
-    // its work, with the file at this place, from 1, for the steps; 0 where none is named
+    // its work, with the file whose name stands at this place, from 1; 0 where none is named
     Work(usize),
     // to write its usage
     Usage,
     // nothing that it knows: the word at this place, from 1, is one that it does not expect there
     Wrong(usize),
-    // its work with the steps of a file that is missing behind `--steps`
+    // its work with a file whose name is missing: behind `--steps`, or where the program needs it
     Lacks,
 }
 
@@ -52,6 +61,10 @@ enum Seen {
     Right(bool, usize),
     // all are right, and the last is `--steps`; whether `--help` is among them
     File(bool),
+    // all are right, and the file that the program needs is not named yet; whether `--help` is among them
+    Unnamed(bool),
+    // all are right, and the last, at this place, names that file; whether `--help` is among them
+    Named(bool, usize),
     // the first that is wrong stands at this place
     Wrong(usize),
 }
@@ -69,7 +82,7 @@ pub enum FileRead {
     Failed(Fault),
 }
 
-// What is left to do once the steps' file was read, or was not.
+// What is left to do once the file was read, or was not.
 fn order_of(read: FileRead) -> Order
     ensures { λ r. ⌜ r ≡ orderOf read ⌝ }
 {
@@ -89,20 +102,35 @@ fn tell(program: &[u8], read: FileRead, name: &mut [u8])
     }
 }
 
-// Reads the steps from the file whose name stands at this place, 0 where none is named. Where that fails it is told. The list
-// for the name has one byte more than the longest name that can be opened: what is longer cannot, whatever follows.
-fn read_steps(program: &[u8], place: usize, steps: &mut [u8]) -> Order
+// Reads the file whose name stands at this place, 0 where none is named. Where that fails it is told. The list for the name
+// has one byte more than the longest name that can be opened: what is longer cannot, whatever follows.
+fn read_named(program: &[u8], place: usize, list: &mut [u8]) -> Order
     requires { ⌜ length (now program) ≤ nameSize ⌝ }
-    ensures { λ r. ⌜ Fits (length (now (steps .exit))) r ⌝ }
+    ensures { λ r. ⌜ Fits (length (now (list .exit))) r ⌝ }
 {
     if place == 0 {
         return Order::Work(0);
     }
     let mut name = [0u8; PATH_MAX];
     let got = read_word(place, &mut name);
-    let read = read_file(&name[..got], steps);
+    let read = read_file(&name[..got], list);
     tell(program, read, &mut name[..got]);
     order_of(read)
+}
+
+// Does what the words of a program of this form ask for, but its work. Returns what is left.
+fn carry_out(program: &[u8], usage: &[u8], form: Form, list: &mut [u8]) -> Order
+    ensures { λ r. ⌜ Fits (length (now (list .exit))) r ⌝ }
+{
+    let shown = smaller(program.len(), NAME);
+    let name = &program[..shown];
+    match read_asked(form) {
+        Asked::Work(place) => return read_named(name, place, list),
+        Asked::Usage => say_usage(name, usage),
+        Asked::Wrong(place) => say_wrong(name, place),
+        Asked::Lacks => say_lacks(name, form),
+    }
+    Order::Done
 }
 
 // What is left to do for a program of this name, which knows the options `--help` and `--steps FILE` and nothing else: its
@@ -116,13 +144,17 @@ fn read_steps(program: &[u8], place: usize, steps: &mut [u8]) -> Order
 pub fn read_order(program: &[u8], usage: &[u8], steps: &mut [u8]) -> Order
     ensures { λ r. ⌜ Fits (length (now (steps .exit))) r ⌝ }
 {
-    let shown = smaller(program.len(), NAME);
-    let name = &program[..shown];
-    match read_asked() {
-        Asked::Work(place) => return read_steps(name, place, steps),
-        Asked::Usage => say_usage(name, usage),
-        Asked::Wrong(place) => say_wrong(name, place),
-        Asked::Lacks => say_lacks(name),
-    }
-    Order::Done
+    carry_out(program, usage, Form::Steps, steps)
+}
+
+// What is left to do for a program of this name, which knows the option `--help` and needs the name of one file behind it: its
+// work where that name is the only word, with the file's bytes at the beginning of the list that is lent, as many as there is
+// room for. Else what it is asked has been done: the usage is written to standard output, whether a file is named or not, or
+// the first word that is wrong, a name that is missing, or a file that could not be opened or read is told on standard error.
+//
+// Open and promised is the same as of `read_order`.
+pub fn read_file_order(program: &[u8], usage: &[u8], list: &mut [u8]) -> Order
+    ensures { λ r. ⌜ Fits (length (now (list .exit))) r ⌝ }
+{
+    carry_out(program, usage, Form::Name, list)
 }

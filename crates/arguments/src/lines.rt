@@ -1,12 +1,13 @@
 // What is told: the usage, or in one line on standard error what is wrong.
 ghost use mathlib.Core.Path.{_≡_};
 ghost use Prim.Native.Nat.{_+_, _≤_, min};
-ghost use mathlib.Core.List.{map};
+ghost use mathlib.Core.List.{_++_, map};
 ghost use lib.ListN.{length};
 ghost use Rattle.io.specs.Counts.{Counts};
 ghost use Rattle.text.specs.Store.{Stored};
 ghost use Rattle.arguments.specs.Lines.{aroundSize, failedLine, lacksLine, lineOf, nameSize, shownAs, wrongLine};
 use crate::Fault;
+use crate::Form;
 use crate::words::read_word;
 use libc::STDERR_FILENO;
 use libc::STDOUT_FILENO;
@@ -86,17 +87,28 @@ fn store_wrong(line: &mut [u8], program: &[u8], word: &[u8]) -> usize
     )
 }
 
-// Stores the line of a `--steps` without its file.
-fn store_lacks(line: &mut [u8], program: &[u8]) -> usize
-    requires { ⌜ length (now program) + aroundSize ≤ length (now line) ⌝ }
-    ensures { λ r. ⌜ Stored (now (line .entry)) 0 (lacksLine (now (program .entry))) r (now (line .exit)) ⌝ }
+// Stores a line that is about no word: the program's name, and what is the matter.
+fn store_matter(line: &mut [u8], program: &[u8], matter: &[u8]) -> usize
+    requires { ⌜ length (now program) + length (now matter) ≤ length (now line) ⌝ }
+    ensures { λ r. ⌜ Stored (now (line .entry)) 0 (now (program .entry) ++ now (matter .entry)) r (now (line .exit)) ⌝ }
 {
     let named = store(line, 0, program);
-    store(
-        line,
-        named,
-        b": '--steps' needs the name of a file, see --help\n",
-    )
+    store(line, named, matter)
+}
+
+// Stores the line of a file's name that is missing: behind `--steps`, or where the program needs it.
+fn store_lacks(line: &mut [u8], program: &[u8], form: Form) -> usize
+    requires { ⌜ length (now program) + aroundSize ≤ length (now line) ⌝ }
+    ensures { λ r. ⌜ Stored (now (line .entry)) 0 (lacksLine (now (program .entry)) form) r (now (line .exit)) ⌝ }
+{
+    match form {
+        Form::Steps => store_matter(
+            line,
+            program,
+            b": '--steps' needs the name of a file, see --help\n",
+        ),
+        Form::Name => store_matter(line, program, b": needs the name of a file, see --help\n"),
+    }
 }
 
 // Stores the line of a file that could not be opened or read, up to the system's reason.
@@ -130,12 +142,12 @@ pub fn say_wrong(program: &[u8], place: usize)
     io::write_all(STDERR_FILENO, &line[..end]);
 }
 
-// Says that the file of `--steps` is missing.
-pub fn say_lacks(program: &[u8])
+// Says that the name of a file is missing.
+pub fn say_lacks(program: &[u8], form: Form)
     requires { ⌜ length (now program) ≤ nameSize ⌝ }
 {
     let mut line = [0u8; LINE];
-    let end = store_lacks(&mut line, program);
+    let end = store_lacks(&mut line, program, form);
     io::write_all(STDERR_FILENO, &line[..end]);
 }
 

@@ -1,21 +1,35 @@
 // The words behind a program's name: which of them are options, and what all ask for.
 ghost use mathlib.Core.Path.{_≡_};
 ghost use Rattle.io.specs.Counts.{Counts};
-ghost use Rattle.arguments.specs.Words.{Chosen, Ends, Follows, Known, askedOf};
+ghost use Rattle.arguments.specs.Words.{Begins, Chosen, Ends, Follows, Known, askedOf, dashed, unlessHelp};
 use crate::Asked;
+use crate::Form;
 use crate::Seen;
 
-// The kinds of words: `--help`, `--steps`, and any other.
+// The kinds of words: `--help`, `--steps`, one that is no option, and any other.
 const HELP: u8 = 1;
 
 const STEPS: u8 = 2;
 
+const PLAIN: u8 = 3;
+
 const OTHER: u8 = 0;
 
-// Words that are looked at: behind three that are right a fourth is wrong whatever it is, as the law `four-decide` says.
+// Words that are looked at: behind three that are right a fourth is wrong whatever it is, and behind two a third where the
+// program needs the name of a file. The law `four-decide` says so of both forms.
 const LOOKED: usize = 4;
-// Bytes of a word that are looked at: what is longer is no option.
+// Bytes of a word that are looked at: what is longer is no option that is known.
 const OPTION: usize = 16;
+
+// Whether a word begins as the options do.
+fn is_dashed(word: &[u8]) -> bool
+    ensures { λ r. ⌜ r ≡ dashed (now (word .entry)) ⌝ }
+{
+    if word.len() == 0 {
+        return false;
+    }
+    word[0] == b'-'
+}
 
 // The kind of a word.
 fn kind_of(word: &[u8]) -> u8
@@ -27,7 +41,10 @@ fn kind_of(word: &[u8]) -> u8
     if check::same(word, b"--steps") {
         return STEPS;
     }
-    OTHER
+    if is_dashed(word) {
+        return OTHER;
+    }
+    PLAIN
 }
 
 // What is seen once a word of this kind stands at a place where an option is expected, behind words that are right.
@@ -49,16 +66,45 @@ fn with_option(help: bool, file: usize, kind: u8, place: usize) -> Seen
     Seen::Wrong(place)
 }
 
+// What is seen once a word of this kind stands at a place where an option or the name of a file is expected, behind words that
+// are right.
+fn with_name(help: bool, kind: u8, place: usize) -> Seen
+    ensures { λ r. ⌜ Follows (Seen.Unnamed help) kind place r ⌝ }
+{
+    if kind == HELP {
+        if help {
+            return Seen::Wrong(place);
+        }
+        return Seen::Unnamed(true);
+    }
+    if kind != PLAIN {
+        return Seen::Wrong(place);
+    }
+    Seen::Named(help, place)
+}
+
 // What is seen once a word of this kind stands at the place behind those that were seen. The word behind `--steps` is its
-// file, whatever it is.
+// file, whatever it is; behind the file that the program needs none is expected.
 fn with_word(seen: Seen, kind: u8, place: usize) -> Seen
     ensures { λ r. ⌜ Follows seen kind place r ⌝ }
 {
     match seen {
         Seen::Right(help, file) => with_option(help, file, kind, place),
         Seen::File(help) => Seen::Right(help, place),
+        Seen::Unnamed(help) => with_name(help, kind, place),
+        Seen::Named(_, _) => Seen::Wrong(place),
         Seen::Wrong(first) => Seen::Wrong(first),
     }
+}
+
+// What is asked by words that are right: the usage where `--help` is among them, and else this.
+fn unless_help(help: bool, asked: Asked) -> Asked
+    ensures { λ r. ⌜ r ≡ unlessHelp help asked ⌝ }
+{
+    if help {
+        return Asked::Usage;
+    }
+    asked
 }
 
 // What is asked by the words that were seen, where no others follow.
@@ -66,22 +112,29 @@ fn asked_by(seen: Seen) -> Asked
     ensures { λ r. ⌜ Ends seen r ⌝ }
 {
     match seen {
-        Seen::Right(help, file) => {
-            if help {
-                return Asked::Usage;
-            }
-            Asked::Work(file)
-        }
+        Seen::Right(help, file) => unless_help(help, Asked::Work(file)),
         Seen::File(_) => Asked::Lacks,
+        Seen::Unnamed(help) => unless_help(help, Asked::Lacks),
+        Seen::Named(help, file) => unless_help(help, Asked::Work(file)),
         Seen::Wrong(first) => Asked::Wrong(first),
     }
 }
 
-// What is asked by words of these kinds.
-fn decide(kinds: &[u8]) -> Asked
-    ensures { λ r. ⌜ r ≡ askedOf (now (kinds .entry)) ⌝ }
+// What is seen before the first word of a program of this form.
+fn none_seen(form: Form) -> Seen
+    ensures { λ r. ⌜ Begins form r ⌝ }
 {
-    let mut seen = Seen::Right(false, 0);
+    match form {
+        Form::Steps => Seen::Right(false, 0),
+        Form::Name => Seen::Unnamed(false),
+    }
+}
+
+// What is asked of a program of this form by words of these kinds.
+fn decide(form: Form, kinds: &[u8]) -> Asked
+    ensures { λ r. ⌜ r ≡ askedOf form (now (kinds .entry)) ⌝ }
+{
+    let mut seen = none_seen(form);
     let mut i: usize = 0;
     while i < kinds.len() {
         seen = with_word(seen, kinds[i], i + 1);
@@ -102,10 +155,10 @@ pub fn read_word(place: usize, word: &mut [u8]) -> usize
     got
 }
 
-// The kind of the word at a place. `os::arg` answers 0 for one that is too long to be an option, and no option is empty.
+// The kind of the word at a place. One that is too long to be an option that is known is judged by its beginning.
 fn read_kind(place: usize) -> u8 {
     let mut word = [0u8; OPTION];
-    let got = os::arg(place, &mut word);
+    let got = read_word(place, &mut word);
     kind_of(&word[..got])
 }
 
@@ -124,9 +177,9 @@ fn read_kinds(kinds: &mut [u8]) -> usize
     i
 }
 
-// What the program's words ask for.
-pub fn read_asked() -> Asked {
+// What the words of a program of this form ask for.
+pub fn read_asked(form: Form) -> Asked {
     let mut kinds = [OTHER; LOOKED];
     let count = read_kinds(&mut kinds);
-    decide(&kinds[..count])
+    decide(form, &kinds[..count])
 }

@@ -1,9 +1,9 @@
 -- `arguments::words::kind_of` meets its contract: its tests are the definition's.
-use mathlib.Core.Path.{_≡_}
+use mathlib.Core.Path.{_≡_, sym, _∙_}
 use Prim.Native.Nat.{ℕ}
 use native.Mathlib.Omega.{arith}
 use mathlib.Core.Bool.{Bool, true, false}
-use Rattle.arguments.proofs.Asks.{known-help, known-steps, known-other}
+use Rattle.arguments.proofs.Asks.{known-help, known-steps, known-plain, known-other}
 use borrow.Author.Needs.{needs}
 use Rattle.arguments.proofs.words.kind_of.Statement.{statement}
 use Rattle.arguments.proofs.words.kind_of.Tie as tie
@@ -20,9 +20,15 @@ returns-2 c = known-steps (c .before .same2 .ensures .0 (c .if2 .taken))
 
 returns-3 : tie.Need-returns-3
 returns-3 c =
-    let second = c .before in
-    let first = second .before .before in
-    known-other (differs (first .if1 .left) (first .before .same .ensures .1)) (differs (c .if2 .left) (second .same2 .ensures .1))
+    let second = c .before .before in
+    let first = second .before .before .before in
+    known-other
+    (differs (first .if1 .left) (first .before .same .ensures .1))
+    (differs (second .if2 .left) (second .before .same2 .ensures .1))
+    (sym (c .before .is-dashed .ensures) ∙ c .if3 .taken)
+
+returns-4 : tie.Need-returns-4
+returns-4 c = known-plain (sym (c .before .is-dashed .ensures) ∙ c .if3 .left)
 
 pub kind-of-spec : {M : Type 1} → statement M
 kind-of-spec =
@@ -34,4 +40,6 @@ kind-of-spec =
     (λ c. search needs)
     (λ c κs. search needs)
     returns-2
-    returns-3)
+    (λ c κs. search needs)
+    returns-3
+    returns-4)

@@ -1,9 +1,10 @@
 -- `arguments::words::with_option` meets its contract: its tests are the definition's.
 use mathlib.Core.Path.{_≡_}
 use native.Mathlib.Omega.{arith}
+use lib.Dec.{eqb}
 use borrow.Author.Tests.{eq-eqb, ne-eqb}
 use Rattle.arguments.specs.Words.{askedFrom, askedAfter}
-use Rattle.arguments.proofs.Asks.{steps-again, steps-first}
+use Rattle.arguments.proofs.Asks.{steps-again, steps-first, neither-option}
 use Rattle.arguments.proofs.words.with_option.Statement.{statement}
 use Rattle.arguments.proofs.words.with_option.Tie as tie
 
@@ -32,8 +33,11 @@ returns-4 c words =
     rw (ne-eqb _ 1 (c .before .before .if1 .left), eq-eqb _ 2 (c .before .if3 .taken), none) (steps-first words _ _)
 
 returns-5 : tie.Need-returns-5
-unfolding askedFrom askedAfter
-returns-5 c words = rw (ne-eqb _ 1 (c .before .if1 .left), ne-eqb _ 2 (c .if3 .left))
+unfolding askedAfter
+returns-5 c words =
+    let a = c .before .before .args in
+    rw (ne-eqb _ 1 (c .before .if1 .left), ne-eqb _ 2 (c .if3 .left))
+    (neither-option (eqb (a .kind) 3) words (a .place) (a .help) (a .file))
 
 pub with-option-spec : {M : Type 1} → statement M
 with-option-spec = tie.close (tie.spec returns returns-2 returns-3 returns-4 returns-5)

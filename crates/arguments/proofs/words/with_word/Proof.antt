@@ -1,4 +1,4 @@
--- `arguments::words::with_word` meets its contract: its cases are the definition's, and an option is that of `with_option`.
+-- `arguments::words::with_word` meets its contract: its cases are the definition's, and where an option or a name is expected it is that of `with_option` or `with_name`.
 use mathlib.Core.Path.{_∙_}
 use Rattle.arguments.specs.Words.{askedAfter}
 use borrow.Author.Needs.{needs}
@@ -14,8 +14,15 @@ unfolding askedAfter
 returns-2 c words = rw (c .before .seen2 .given .1)
 
 returns-3 : tie.Need-returns-3
+returns-3 c words = c .with-name .ensures words ∙ rw (c .before .before .seen3 .given .1)
+
+returns-4 : tie.Need-returns-4
 unfolding askedAfter
-returns-3 c words = rw (c .before .seen3 .given .1)
+returns-4 c words = rw (c .enum-told .given .1)
+
+returns-5 : tie.Need-returns-5
+unfolding askedAfter
+returns-5 c words = rw (c .before .seen4 .given .1)
 
 pub with-word-spec : {M : Type 1} → statement M
 with-word-spec =
@@ -25,6 +32,11 @@ with-word-spec =
     (λ c κs. search needs)
     (λ c. search needs)
     (λ c. search needs)
+    (λ c κs. search needs)
+    (λ c. search needs)
+    (λ c. search needs)
     returns
     returns-2
-    returns-3)
+    returns-3
+    returns-4
+    returns-5)

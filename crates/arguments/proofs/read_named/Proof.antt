@@ -1,11 +1,11 @@
--- `arguments::read_steps` meets its contract: the bytes are those of `read_file`.
+-- `arguments::read_named` meets its contract: the bytes are those of `read_file`.
 use mathlib.Core.Path.{sym, subst}
 use lib.ListN.{length}
 use Rattle.arguments.specs.Words.{Fits}
 use Rattle.arguments.proofs.Read.{order-fits}
 use borrow.Author.Needs.{needs}
-use Rattle.arguments.proofs.read_steps.Statement.{statement}
-use Rattle.arguments.proofs.read_steps.Tie as tie
+use Rattle.arguments.proofs.read_named.Statement.{statement}
+use Rattle.arguments.proofs.read_named.Tie as tie
 
 returns-2 : tie.Need-returns-2
 returns-2 c =
@@ -13,8 +13,8 @@ returns-2 c =
     let room = length (r .read-file .last .1 .0) in
     subst (Fits room) (sym (c .order-of .ensures)) (order-fits (r .read-file .result) room (r .read-file .ensures))
 
-pub read-steps-spec : {M : Type 1} → statement M
-read-steps-spec =
+pub read-named-spec : {M : Type 1} → statement M
+read-named-spec =
     tie.close
     (tie.spec
     (λ c. search needs)
