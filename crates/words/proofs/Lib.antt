@@ -5,3 +5,4 @@ pub mod PieceLaws
 pub mod NumberLaws
 pub mod WordLaws
 pub mod SlotLaws
+pub mod SizeLaws

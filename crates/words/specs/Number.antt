@@ -22,6 +22,10 @@ mostDecimals = 4
 abbrev pub parts : ℕ
 parts = 10_000
 
+-- the greatest number of a word, ten-thousandths: five digits and four decimals
+abbrev pub mostNumber : ℕ
+mostNumber = 999_999_999
+
 -- the number with a sign, whole digits that write `whole`, and decimals: one to four digits alone
 unfoldable pub ofDecimals : (negative : Bool) (whole : ℕ) (decimals : List ℕ) → Number
 ofDecimals negative whole s =
