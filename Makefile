@@ -44,15 +44,16 @@ expected:
 	$(REFERENCE) planlist_ref < crates/planlist/stdin > crates/planlist/stdout
 	$(REFERENCE) planreplay_ref < crates/planreplay/stdin > crates/planreplay/stdout
 
-# make examples: the example tapes, traces and torque steps, made again.
+# make examples: the example tapes, traces, torque steps and texts, made again.
 TAPES = $(addprefix examples/tapes/,right-angle.tape mould-row.tape square-pocket.tape to-and-fro.tape)
 TRACES = examples/traces/shop-traffic.trace
 STEPS = examples/steps/soft-motors.steps
+TEXTS = examples/text/pocket-with-boss.ngc
 
-examples: $(TAPES) $(TRACES) $(STEPS)
+examples: $(TAPES) $(TRACES) $(STEPS) $(TEXTS)
 
-.PHONY: $(TAPES) $(TRACES) $(STEPS)
-$(TAPES) $(TRACES) $(STEPS):
+.PHONY: $(TAPES) $(TRACES) $(STEPS) $(TEXTS)
+$(TAPES) $(TRACES) $(STEPS) $(TEXTS):
 	@mkdir -p $(@D)
 	$(REFERENCE) maketape -- $(basename $(@F)) > $@
 

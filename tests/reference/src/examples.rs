@@ -1,7 +1,8 @@
-//! Example tapes, traces and torque steps.
+//! Example tapes, traces, torque steps and texts.
 
 use crate::generate::machine_m;
 use crate::machine::{Block, Limits};
+use crate::pocket::pocket_with_boss;
 use crate::rng::Rng;
 use crate::tape::Tape;
 use crate::trace::{pack_trace, Call};
@@ -38,6 +39,17 @@ pub const STEP_NAMES: [&str; 1] = ["soft-motors"];
 pub fn example_steps(name: &str) -> Option<[u8; 8]> {
     match name {
         "soft-motors" => Some([100, 80, 65, 50, 40, 32, 26, 20]),
+        _ => None,
+    }
+}
+
+/// Names of the example texts.
+pub const TEXT_NAMES: [&str; 1] = ["pocket-with-boss"];
+
+/// The example text of a name.
+pub fn example_text(name: &str) -> Option<String> {
+    match name {
+        "pocket-with-boss" => Some(pocket_with_boss()),
         _ => None,
     }
 }

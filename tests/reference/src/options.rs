@@ -1,9 +1,12 @@
-//! The options that the listing programs share.
+//! The arguments of the programs: the options that the listing programs share,
+//! and a file of limits.
 
 use std::ffi::{OsStr, OsString};
 use std::fs::File;
 use std::io::{self, Read, Write};
 use std::process::ExitCode;
+
+use crate::tape::LIMITS_BYTES;
 
 /// Most bytes of a file of torque steps that are looked at.
 pub const MOST_STEP_BYTES: u64 = 65_536;
@@ -34,12 +37,47 @@ pub fn asked(arguments: impl IntoIterator<Item = OsString>) -> Result<Asked, Str
     Ok(if help { Asked::Help } else { Asked::Work(file) })
 }
 
+/// What the arguments of a program that reads limits from a file ask for.
+#[derive(Clone, Debug, PartialEq, Eq)]
+pub enum Named {
+    /// The usage.
+    Help,
+    /// The program's work, with the limits in the file of this name.
+    Limits(OsString),
+}
+
+/// What the arguments ask for, or what is wrong with them: `--help` at most
+/// once, then the name of the file, which does not begin with two hyphens.
+pub fn named(arguments: impl IntoIterator<Item = OsString>) -> Result<Named, String> {
+    let (mut help, mut file) = (false, None);
+    for word in arguments {
+        let option = word.as_encoded_bytes().starts_with(b"--");
+        if file.is_none() && !option {
+            file = Some(word);
+        } else if file.is_none() && !help && word == "--help" {
+            help = true;
+        } else {
+            return Err(format!("{word:?} is no argument here"));
+        }
+    }
+    if help {
+        return Ok(Named::Help);
+    }
+    file.map(Named::Limits)
+        .ok_or("no file of limits is named".into())
+}
+
 /// Loaded torque steps: the bytes of a file as far as they are looked at.
 pub fn steps_of(file: &OsStr) -> io::Result<Vec<u8>> {
-    let mut steps = Vec::new();
-    let mut part = File::open(file)?.take(MOST_STEP_BYTES);
-    part.read_to_end(&mut steps)?;
-    Ok(steps)
+    first_bytes(file, MOST_STEP_BYTES)
+}
+
+/// The first bytes of a file, `most` of them if it has as many.
+fn first_bytes(file: &OsStr, most: u64) -> io::Result<Vec<u8>> {
+    let mut bytes = Vec::new();
+    let mut part = File::open(file)?.take(most);
+    part.read_to_end(&mut bytes)?;
+    Ok(bytes)
 }
 
 /// Runs a program: `work` gets the loaded torque steps, none if no file of them
@@ -47,16 +85,50 @@ pub fn steps_of(file: &OsStr) -> io::Result<Vec<u8>> {
 /// one line on standard error that names the program and the matter.
 pub fn run(program: &str, input: &str, work: impl FnOnce(&[u8]) -> io::Result<()>) -> ExitCode {
     let usage = format!("{program} [--steps FILE] < {input}");
-    let told = |error: io::Error| error.to_string();
     let ended = match asked(std::env::args_os().skip(1)) {
         Err(matter) => Err(format!("{matter}; use: {usage}")),
         Ok(Asked::Help) => writeln!(io::stdout(), "{usage}").map_err(told),
         Ok(Asked::Work(None)) => work(&[]).map_err(told),
-        Ok(Asked::Work(Some(file))) => match steps_of(&file) {
-            Err(error) => Err(format!("{file:?}: {error}")),
-            Ok(steps) => work(&steps).map_err(told),
-        },
+        Ok(Asked::Work(Some(file))) => with_bytes(&file, MOST_STEP_BYTES, work),
     };
+    end(program, ended)
+}
+
+/// Runs a program likewise: `work` gets the first bytes of the named file, 24 if
+/// it has as many.
+pub fn run_on_limits(
+    program: &str,
+    input: &str,
+    work: impl FnOnce(&[u8]) -> io::Result<()>,
+) -> ExitCode {
+    let usage = format!("{program} LIMITS < {input}");
+    let ended = match named(std::env::args_os().skip(1)) {
+        Err(matter) => Err(format!("{matter}; use: {usage}")),
+        Ok(Named::Help) => writeln!(io::stdout(), "{usage}").map_err(told),
+        Ok(Named::Limits(file)) => with_bytes(&file, LIMITS_BYTES as u64, work),
+    };
+    end(program, ended)
+}
+
+/// Hands the first bytes of a file to `work`, `most` of them if it has as many.
+fn with_bytes(
+    file: &OsStr,
+    most: u64,
+    work: impl FnOnce(&[u8]) -> io::Result<()>,
+) -> Result<(), String> {
+    match first_bytes(file, most) {
+        Err(error) => Err(format!("{file:?}: {error}")),
+        Ok(bytes) => work(&bytes).map_err(told),
+    }
+}
+
+/// The matter of an error.
+fn told(error: io::Error) -> String {
+    error.to_string()
+}
+
+/// Ends a program, after telling what went wrong.
+fn end(program: &str, ended: Result<(), String>) -> ExitCode {
     match ended {
         Ok(()) => ExitCode::SUCCESS,
         Err(matter) => {

@@ -14,11 +14,13 @@ pub enum Refusal {
     Ragged = 9,
     Many = 10,
     List = 11,
+    Word = 12,
+    Number = 13,
     Steps = 14,
 }
 
 impl Refusal {
-    /// Number on the display: 1 to 11, or 14.
+    /// Number on the display: 1 to 14.
     pub fn number(self) -> u64 {
         self as u64
     }
@@ -37,11 +39,14 @@ impl Refusal {
             Refusal::Ragged => "ragged",
             Refusal::Many => "many",
             Refusal::List => "list",
+            Refusal::Word => "word",
+            Refusal::Number => "number",
             Refusal::Steps => "steps",
         }
     }
 
-    /// The refusal of a whole tape when no record is at fault (place 0).
+    /// The refusal of a whole tape when no record is at fault, or of a text when
+    /// no line is (place 0).
     pub fn at_no_record(self) -> Fault {
         Fault {
             refusal: self,
@@ -50,8 +55,8 @@ impl Refusal {
     }
 }
 
-/// Refusal of a whole tape: the reason and the record's place from 1, 0 if no
-/// record is at fault.
+/// Refusal of a whole tape or of a text: the reason, and the place from 1 of the
+/// record or the line at fault, 0 if none is.
 #[derive(Clone, Copy, Debug, PartialEq, Eq)]
 pub struct Fault {
     pub refusal: Refusal,

@@ -1,10 +1,11 @@
-//! The stored example tapes, traces and torque steps.
+//! The stored example tapes, traces, torque steps and texts.
 
 use std::fs;
 use std::path::PathBuf;
 
 use reference::examples::{
-    example, example_steps, example_trace, shop_traffic, AHEAD, NAMES, STEP_NAMES, TRACE_NAMES,
+    example, example_steps, example_text, example_trace, shop_traffic, AHEAD, NAMES, STEP_NAMES,
+    TEXT_NAMES, TRACE_NAMES,
 };
 use reference::listing::{planlist, planreplay};
 use reference::machine::read_steps;
@@ -44,6 +45,15 @@ fn stored_steps_are_these() {
         assert_ne!(planlist(&pocket, &steps), planlist(&pocket, &[]), "{name}");
     }
     assert_eq!(example_steps("none"), None);
+}
+
+#[test]
+fn stored_texts_are_these() {
+    for name in TEXT_NAMES {
+        let text = example_text(name).unwrap().into_bytes();
+        assert!(stored(&format!("text/{name}.ngc")) == text, "{name}");
+    }
+    assert_eq!(example_text("none"), None);
 }
 
 /// The shop's line holds 0 to 8 blocks, and all of these numbers occur. It is

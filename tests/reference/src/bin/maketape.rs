@@ -1,19 +1,22 @@
-//! Writes an example tape, trace or list of torque steps, or a seeded tape or trace, to standard output.
+//! Writes an example tape, trace, list of torque steps or text, or a seeded tape,
+//! trace or text, to standard output.
 
 use std::io::{self, Write};
 use std::process::ExitCode;
 
-use reference::examples::{example, example_steps, example_trace, NAMES, STEP_NAMES, TRACE_NAMES};
-use reference::generate::{faulty_tape, tape, trace};
+use reference::examples::{
+    example, example_steps, example_text, example_trace, NAMES, STEP_NAMES, TEXT_NAMES, TRACE_NAMES,
+};
+use reference::generate::{any_text, faulty_tape, tape, trace};
 use reference::rng::Rng;
 
 /// Writes what the arguments name; explains itself otherwise.
 fn main() -> ExitCode {
     let arguments: Vec<String> = std::env::args().skip(1).collect();
     let Some(bytes) = bytes_of(&arguments) else {
-        let names = [&NAMES[..], &TRACE_NAMES[..], &STEP_NAMES[..]].concat();
+        let names = [&NAMES[..], &TRACE_NAMES, &STEP_NAMES, &TEXT_NAMES].concat();
         eprintln!("maketape {}", names.join(" | "));
-        eprintln!("maketape tape | faulty | trace SEED");
+        eprintln!("maketape tape | faulty | trace | text SEED");
         return ExitCode::FAILURE;
     };
     match io::stdout().write_all(&bytes) {
@@ -28,19 +31,22 @@ fn bytes_of(arguments: &[String]) -> Option<Vec<u8>> {
         [name] => {
             let tape = example(name).map(|tape| tape.pack());
             let steps = || example_steps(name).map(|steps| steps.to_vec());
-            tape.or_else(|| example_trace(name)).or_else(steps)
+            let text = || example_text(name).map(String::into_bytes);
+            let trace = || example_trace(name);
+            tape.or_else(trace).or_else(steps).or_else(text)
         }
         [kind, seed] => seeded(kind, &mut Rng::new(seed.parse().ok()?)),
         _ => None,
     }
 }
 
-/// A seeded accepted tape, faulty tape, or trace.
+/// A seeded accepted tape, faulty tape, trace, or text.
 fn seeded(kind: &str, rng: &mut Rng) -> Option<Vec<u8>> {
     match kind {
         "tape" => Some(tape(rng)),
         "faulty" => Some(faulty_tape(rng)),
         "trace" => Some(trace(rng)),
+        "text" => Some(any_text(rng)),
         _ => None,
     }
 }

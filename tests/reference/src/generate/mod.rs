@@ -1,13 +1,17 @@
-//! Seeded limits, torque steps, blocks, tapes and call lists for the
+//! Seeded limits, torque steps, blocks, tapes, call lists and texts for the
 //! comparisons.
 
 mod blocks;
 mod calls;
 mod curves;
 mod limits;
+mod pen;
 mod speeds;
+mod spelling;
 mod steps;
 mod tapes;
+mod text_noise;
+mod texts;
 
 pub use blocks::{
     block, faulty_block, path, short_steps, straight_steps, tiny_block, BLOCK_FAULTS,
@@ -18,3 +22,5 @@ pub use limits::{faulty_limits, limits, machine_m, tiny_limits, with_chord};
 pub use speeds::{block_of_speed, edge_speeds, path_at_edges, Cause, Way, CAUSES, WAYS};
 pub use steps::{faulty_steps, loaded_steps, steps};
 pub use tapes::{faulty_tape, set_last_bit, spoil_record, tape, TAPE_FAULTS};
+pub use text_noise::noisy_text;
+pub use texts::{any_text, faulty_text, late_text, many_text, text, text_with_blocks};
