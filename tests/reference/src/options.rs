@@ -47,11 +47,11 @@ pub enum Named {
 }
 
 /// What the arguments ask for, or what is wrong with them: `--help` at most
-/// once, then the name of the file, which does not begin with two hyphens.
+/// once, then the name of the file, which does not begin with a hyphen.
 pub fn named(arguments: impl IntoIterator<Item = OsString>) -> Result<Named, String> {
     let (mut help, mut file) = (false, None);
     for word in arguments {
-        let option = word.as_encoded_bytes().starts_with(b"--");
+        let option = word.as_encoded_bytes().starts_with(b"-");
         if file.is_none() && !option {
             file = Some(word);
         } else if file.is_none() && !help && word == "--help" {
