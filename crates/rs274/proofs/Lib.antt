@@ -2,3 +2,4 @@
 pub mod Blocks
 pub mod Tapes
 pub mod Rounding
+pub mod Cases
