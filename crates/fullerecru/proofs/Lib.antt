@@ -3,3 +3,4 @@ pub mod Determined
 pub mod Displayed
 pub mod FromBytes
 pub mod WholeTapes
+pub mod LentTexts

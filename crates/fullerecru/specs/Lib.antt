@@ -3,3 +3,4 @@ pub mod Moves
 pub mod Planners
 pub mod Tapes
 pub mod Plans
+pub mod Texts

@@ -1,9 +1,10 @@
-// Fullerecru for C: the planner, the tape, the plan of a whole tape and the run of a trace. Every
+// Fullerecru for C: the planner, the tape, the plan of a whole tape, the run of a trace and the records of a text. Every
 // call but `fullerecru_told` returns the number on the display: 0 for accepted, else the refusal,
-// which leaves what was lent as it was (the place of a record at fault is written even so). Nothing
+// which leaves what was lent as it was (the place of a record or a line at fault is written even so). Nothing
 // is required but pointers to as many bytes or numbers as are named, and that what a call may write
 // is lent to it once only.
 mod numbers;
 pub mod planners;
 pub mod plans;
 pub mod tapes;
+pub mod texts;

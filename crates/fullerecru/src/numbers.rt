@@ -1,5 +1,6 @@
-// What the functions for C share: the numbers on the display of the planner's answers, and a block's moves as three
-// numbers.
+// What the functions for C share: the numbers on the display of the planner's answers, a block's moves as three
+// numbers, and a list of one number.
+ghost use mathlib.Core.List.{_∷_, []};
 ghost use mathlib.Core.Path.{_≡_};
 ghost use lib.ListN.{length};
 ghost use Rattle.line.specs.Answers.{addMeans, answerNumber, showMeans};
@@ -40,4 +41,12 @@ pub fn put_moves(b: Block, moves: &mut [i64])
     moves[0] = x;
     moves[1] = y;
     moves[2] = z;
+}
+
+// Stores the only number of a list.
+pub fn put_number(list: &mut [u64], n: u64)
+    requires { ⌜ length (now list) ≡ 1 ⌝ }
+    ensures { λ r. ⌜ now (list .exit) ≡ n ∷ [] ⌝ }
+{
+    list[0] = n;
 }

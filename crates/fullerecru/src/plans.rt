@@ -1,22 +1,12 @@
 // The plan of a whole tape, and the run of a trace, for C. Bytes and lists are handed over as a
 // pointer and their length.
-ghost use mathlib.Core.List.{_∷_, []};
-ghost use mathlib.Core.Path.{_≡_};
-ghost use lib.ListN.{length};
 ghost use Rattle.fullerecru.specs.Plans.{PlanLent, ReplayLent};
+use crate::numbers::put_number;
 use display::refusal_number;
 use replay::Replayed;
 use replay::replay;
 use tapeplan::TapePlanned;
 use tapeplan::whole::plan_tape;
-
-// Stores the only number of a list.
-fn put_number(list: &mut [u64], n: u64)
-    requires { ⌜ length (now list) ≡ 1 ⌝ }
-    ensures { λ r. ⌜ now (list .exit) ≡ n ∷ [] ⌝ }
-{
-    list[0] = n;
-}
 
 // Plans a whole tape from rest to rest with the torque steps of `fullerecru_fresh`: the list gets the
 // highest lawful profile, one number for each junction, (µm/s)², and is one longer than the tape has

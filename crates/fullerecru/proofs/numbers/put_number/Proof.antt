@@ -1,9 +1,9 @@
--- `fullerecru::plans::put_number`: the list is stored whole.
+-- `fullerecru::numbers::put_number`: the list is stored whole.
 use mathlib.Core.List.{_∷_, []}
 use borrow.Author.Needs.{needs}
 use Rattle.machine.proofs.Runs.{sets-all}
-use Rattle.fullerecru.proofs.plans.put_number.Statement.{statement}
-use Rattle.fullerecru.proofs.plans.put_number.Tie as tie
+use Rattle.fullerecru.proofs.numbers.put_number.Statement.{statement}
+use Rattle.fullerecru.proofs.numbers.put_number.Tie as tie
 
 returns : tie.Need-returns
 returns c = sets-all (c .args .n ∷ []) (c .args .list .now) (c .pre)
