@@ -1,8 +1,8 @@
 // Programs in RS-274 text: what the lines do, the blocks between their positions, and the records that are written of them.
 // Nothing here knows a plan.
 pub mod line;
-pub mod modal;
-pub mod text;
+pub mod state;
+pub mod whole;
 
 use display::Refusal;
 

@@ -15,12 +15,13 @@ ghost use Rattle.rs274.specs.Text.{runOf, withBlock, withLine, withWords
 use crate::Kept;
 use crate::LineTaken;
 use crate::Modal;
-use crate::modal::block_between;
-use crate::modal::modal_after;
+use crate::state::block_between;
+use crate::state::modal_after;
 use display::Checked;
 use display::Refusal;
 use machine::Block;
 use machine::check::check_block;
+use machine::measure::moves_of;
 use tape::MOST_BLOCKS;
 use tape::RECORD_BYTES;
 use tape::records::write_record;
@@ -31,7 +32,8 @@ use words::scan::read_words;
 fn is_still(b: Block) -> bool
     ensures { λ r. ⌜ r ≡ eqb (greatestMove b) 0 ⌝ }
 {
-    (b.x == 0) & (b.y == 0) & (b.z == 0)
+    let m = moves_of(b);
+    (m.x == 0) & (m.y == 0) & (m.z == 0)
 }
 
 // The answer for a block that is one too many, by its own check: 3 to 6, and then 10.
@@ -48,7 +50,7 @@ fn one_too_many(checked: Checked) -> Kept
 // before 10.
 fn keep(b: Block, count: usize, made: &mut [u8]) -> Kept
     requires { ⌜ (length (now made) ≡ keptBytes) × (count ≤ mostBlocks) ⌝ }
-    ensures { λ r. ⌜ (blocks : List Block) → Holds (now (made .entry)) count blocks → Keeps (withBlock b blocks) r (now (made .exit)) ⌝ }
+    ensures { λ r. ⌜ ((blocks : List Block) → Holds (now (made .entry)) count blocks → Keeps (withBlock b blocks) r (now (made .exit))) ⌝ }
 {
     if is_still(b) {
         return Kept::At(count);
@@ -63,9 +65,16 @@ fn keep(b: Block, count: usize, made: &mut [u8]) -> Kept
 }
 
 // What the words of the line with this number, counted from 1, come to: what is in force behind it, and the blocks kept.
-fn take_words(m: Modal, count: usize, place: usize, stands: &[bool], values: &[i64], made: &mut [u8]) -> LineTaken
+fn take_words(
+    m: Modal,
+    count: usize,
+    place: usize,
+    stands: &[bool],
+    values: &[i64],
+    made: &mut [u8],
+) -> LineTaken
     requires { ⌜ Sized (now stands) (now values) × (WordsWithin (wordsIn (now stands) (now values)) × (Near count m × ((length (now made) ≡ keptBytes) × (count ≤ mostBlocks)))) ⌝ }
-    ensures { λ r. ⌜ (blocks : List Block) → Holds (now (made .entry)) count blocks → Takes (withWords place (runOf m blocks) (wordsIn (now (stands .entry)) (now (values .entry)))) r (now (made .exit)) ⌝ }
+    ensures { λ r. ⌜ ((blocks : List Block) → Holds (now (made .entry)) count blocks → Takes (withWords place (runOf m blocks) (wordsIn (now (stands .entry)) (now (values .entry)))) r (now (made .exit))) ⌝ }
 {
     let next = modal_after(m, stands, values);
     match keep(block_between(m, next, place as u64), count, made) {
@@ -75,9 +84,15 @@ fn take_words(m: Modal, count: usize, place: usize, stands: &[bool], values: &[i
 }
 
 // What the line with this number, counted from 1, comes to.
-pub(crate) fn take_line(m: Modal, count: usize, place: usize, line: &[u8], made: &mut [u8]) -> LineTaken
+pub(crate) fn take_line(
+    m: Modal,
+    count: usize,
+    place: usize,
+    line: &[u8],
+    made: &mut [u8],
+) -> LineTaken
     requires { ⌜ Near count m × ((length (now made) ≡ keptBytes) × (count ≤ mostBlocks)) ⌝ }
-    ensures { λ r. ⌜ (blocks : List Block) → Holds (now (made .entry)) count blocks → Takes (withLine place (runOf m blocks) (now (line .entry))) r (now (made .exit)) ⌝ }
+    ensures { λ r. ⌜ ((blocks : List Block) → Holds (now (made .entry)) count blocks → Takes (withLine place (runOf m blocks) (now (line .entry))) r (now (made .exit))) ⌝ }
 {
     let mut stands = [false; SLOTS];
     let mut values = [0i64; SLOTS];

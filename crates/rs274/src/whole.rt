@@ -9,7 +9,7 @@ ghost use Rattle.rs274.specs.Text.{textRun};
 use crate::LineTaken;
 use crate::TextAnswer;
 use crate::line::take_line;
-use crate::modal::begin;
+use crate::state::begin;
 use display::Refusal;
 use tape::MOST_BLOCKS;
 use tape::RECORD_BYTES;
