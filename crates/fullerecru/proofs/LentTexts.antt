@@ -55,10 +55,9 @@ module _ (text records : List ℕ) where
 -- From the promise alone each result and each lent number can be worked out.
 pub texted-one : {text records a b blocks c d p q : List ℕ} {n k : ℕ} → TextLent text n records a blocks c p → TextLent text k records b blocks d q
     → (n ≡ k) × (a ≡ b) × (c ≡ d) × (p ≡ q)
-texted-one x y =
-    (
-      x .number-is ∙ sym (y .number-is),
-      x .records-are ∙ sym (y .records-are),
-      x .blocks-are ∙ sym (y .blocks-are),
-      x .place-is ∙ sym (y .place-is),
-    )
+texted-one x y = (
+  x .number-is ∙ sym (y .number-is),
+  x .records-are ∙ sym (y .records-are),
+  x .blocks-are ∙ sym (y .blocks-are),
+  x .place-is ∙ sym (y .place-is),
+)

@@ -5,3 +5,4 @@ pub mod Pieces
 pub mod Number
 pub mod Words
 pub mod Steps
+pub mod Meaning

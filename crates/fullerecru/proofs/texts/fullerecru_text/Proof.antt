@@ -1,68 +1,35 @@
+-- `fullerecru::texts::fullerecru_text`: the promise of `text_records` by number, line and number of blocks.
 use borrow.Author.Needs.{needs}
+use Rattle.fullerecru.proofs.LentTexts.{text-written, text-refused}
 use Rattle.fullerecru.proofs.texts.fullerecru_text.Statement.{statement}
 use Rattle.fullerecru.proofs.texts.fullerecru_text.Tie as tie
-use Rattle.fullerecru.proofs.texts.fullerecru_text.Reads as reads
-use Rattle.fullerecru.proofs.texts.fullerecru_text.Lts as lts
-use Rattle.display.proofs.refusal_number.Reads as refusal-number-reads
-use Rattle.fullerecru.proofs.numbers.put_number.Reads as put-number-reads
-use Rattle.rs274.proofs.whole.text_records.Reads as text-records-reads
 
--- src/texts.rt:20:11
-text-records-requires : tie.Need-text-records-requires
-text-records-requires c κs = search needs
-
--- src/texts.rt:21:29
-enum-known-count : tie.Need-enum-known-count
-enum-known-count c = search needs
-
--- src/texts.rt:22:13
-put-number-requires : tie.Need-put-number-requires
-put-number-requires c κs = search needs
-
--- src/texts.rt:23:13
-put-number-requires-2 : tie.Need-put-number-requires-2
-put-number-requires-2 c κs = search needs
-
--- src/texts.rt:26:29
-enum-known-why : tie.Need-enum-known-why
-enum-known-why c = search needs
-
--- src/texts.rt:27:13
-put-number-requires-3 : tie.Need-put-number-requires-3
-put-number-requires-3 c κs = search needs
-
--- src/texts.rt:28:13
-refusal-number-requires : tie.Need-refusal-number-requires
-refusal-number-requires c κs = search needs
-
--- src/texts.rt:11:1
-same-length : tie.Need-same-length
-same-length c = search needs
-
--- src/texts.rt:11:1
 returns : tie.Need-returns
-returns c = ?
+returns c =
+    let put = c .before .before in
+    let known = put .before .before .before in
+    let wrote = known .before .before .before .before in
+    text-written _ _ (known .count .given .0 .0) (rw (known .count .given .1) at (wrote .text-records .ensures)) (put .put-number .ensures) (c .put-number2 .ensures)
 
--- src/texts.rt:11:1
-same-length-2 : tie.Need-same-length-2
-same-length-2 c = search needs
-
--- src/texts.rt:11:1
 returns-2 : tie.Need-returns-2
-returns-2 c = ?
+returns-2 c =
+    let put = c .before in
+    let known = put .before .before .before in
+    let wrote = known .before .before .before .before in
+    text-refused _ _ _ (known .why .given .0 .0) (known .why .given .0 .1 .0) (rw (known .why .given .1) at (wrote .text-records .ensures)) (put .put-number3 .ensures) (c .refusal-number .ensures)
 
 pub fullerecru-text-spec : {M : Type 1} → statement M
 fullerecru-text-spec =
     tie.close
     (tie.spec
-    text-records-requires
-    enum-known-count
-    put-number-requires
-    put-number-requires-2
-    enum-known-why
-    put-number-requires-3
-    refusal-number-requires
-    same-length
+    (λ c κs. search needs)
+    (λ c. search needs)
+    (λ c κs. search needs)
+    (λ c κs. search needs)
+    (λ c. search needs)
+    (λ c κs. search needs)
+    (λ c κs. search needs)
+    (λ c. search needs)
     returns
-    same-length-2
+    (λ c. search needs)
     returns-2)
