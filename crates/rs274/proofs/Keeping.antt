@@ -1,5 +1,4 @@
 -- A line's block kept as a record behind those before it, and what a line's words come to. From the laws of one record and of positions.
-use mathlib.Core.Logic.{_⊎_, inl, inr}
 use mathlib.Core.Path.{_≡_, refl, sym, ap, subst, _∙_}
 use mathlib.Core.Bool.{Bool, true, false, cond}
 use mathlib.Core.List.{List, [], _∷_, _++_, append-assoc, append-nil}
@@ -8,11 +7,11 @@ use native.Mathlib.Nat.{le-of-eq}
 use native.Mathlib.Omega.{arith}
 use borrow.Author.Tests.{lt-ltb, le-ltb, eqb-true}
 use borrow.Rule.Slice.PartMut.{midOf, putMid, same-len-mid}
-use lib.Dec.{eqb, ltb, lit<}
+use lib.Dec.{eqb, lit<}
 use lib.IntN.{ℤ, natAbs}
 use lib.ListN.{length, take, drop, length-append, length-drop}
-use lib.Seq.{take-all, take-at, length-take-le}
-use Rattle.display.specs.Display.{refusalNumber, checkedMeans, byNumber, _then_, Outcome, given, refused, orRefused}
+use lib.Seq.{take-all, take-at}
+use Rattle.display.specs.Display.{refusalNumber, checkedMeans, _then_, Outcome, given, refused, orRefused}
 use Rattle.display.specs.declared.Refusal.{Refusal}
 use Rattle.display.specs.declared.Checked.{Checked}
 use Rattle.display.specs.declared.Checked.the-variants.{Passed, Refused}
@@ -29,13 +28,12 @@ use Rattle.tape.proofs.Answers.{enough}
 use Rattle.tape.proofs.Trips.{record-length}
 use Rattle.words.specs.Words.{Words}
 use Rattle.rs274.specs.Answers.{recordsOf}
-use Rattle.rs274.specs.Kept.{keptBytes, Holds, Near, tooMany, Keeps, Takes}
+use Rattle.rs274.specs.Kept.{Holds, Near, tooMany, Keeps, Takes}
 use Rattle.rs274.specs.Modal.{modalAfter, blockBetween, roundedOf, moveOf}
 use Rattle.rs274.specs.Text.{Run, runOf, manyBlocks, withBlock, withWords}
 use Rattle.rs274.specs.declared.Modal.{Modal}
 use Rattle.rs274.specs.declared.Kept.{Kept}
 use Rattle.rs274.specs.declared.Kept.the-variants as kept
-use Rattle.rs274.specs.declared.LineTaken.{LineTaken}
 use Rattle.rs274.specs.declared.LineTaken.the-variants as taken
 use Rattle.rs274.proofs.Positions.{moved-near}
 

@@ -1,9 +1,9 @@
--- The laws of positions, feeds and blocks, of the list that keeps their records, and of reading a text line by line.
+-- The laws of positions, feeds and blocks, of the list that keeps their records, of reading a text line by line, and of the tape that is made of it.
 pub mod Positions
+pub mod Rounding
 pub mod Keeping
 pub mod Reading
 pub mod Records
-pub mod Blocks
-pub mod Tapes
-pub mod Rounding
+pub mod Accepted
+pub mod Making
 pub mod Cases

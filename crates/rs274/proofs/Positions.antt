@@ -1,21 +1,20 @@
 -- How large positions, lengths and moves are, and that the code's numbers are theirs. From arith's laws of signed numbers.
 use mathlib.Core.Path.{_≡_, refl, sym, ap, subst, _∙_}
-use mathlib.Core.Bool.{Bool, true, false, cond, not, _&&_}
-use Prim.Native.Nat.{ℕ, zero, suc, _+_, _*_, _/_, _^_, _≤_, _<_, max}
+use mathlib.Core.Bool.{Bool, true, false, cond, _&&_}
+use Prim.Native.Nat.{ℕ, _+_, _*_, _/_, _^_, _≤_, _<_, max}
 use native.Mathlib.Omega.{arith}
 use borrow.Author.Tests.{ltb-true, eqb-true, eqb-false, eq-eqb, ne-eqb}
 use lib.Dec.{eqb}
 use lib.IntN.{ℤ, pos, negsuc, natAbs, _+ℤ_, _-ℤ_, _*ℤ_, -ℤ-+ℤ-cancel}
-use lib.ListN.{getD}
 use lib.Signed.{ltZ}
 use Rattle.arith.specs.Signed.{signedBy}
 use Rattle.arith.proofs.SignedLaws.{readBack, small-back, natAbs-neg, natAbs-sum, natAbs-minus, natAbs-product}
 use Rattle.machine.specs.Ranges.{mostMove}
 use Rattle.tape.specs.Answers.{mostBlocks}
-use Rattle.words.specs.Words.{Words, xSlot, ySlot, zSlot, isValue}
+use Rattle.words.specs.Words.{Words, xSlot, ySlot, zSlot}
 use Rattle.rs274.specs.Bounds.{mostNumber, WordsWithin, Within}
 use Rattle.rs274.specs.Kept.{Near}
-use Rattle.rs274.specs.Modal.{standsIn, numberIn, chosenBy, unitOf, lengthIn, positionOf, feedOf, modalAfter, inchesAfter, incrementalAfter, roundedOf, moveOf}
+use Rattle.rs274.specs.Modal.{standsIn, numberIn, unitOf, lengthIn, positionOf, feedOf, modalAfter, inchesAfter, incrementalAfter, roundedOf, moveOf}
 use Rattle.rs274.specs.declared.Modal.{Modal}
 
 -- A number that is a small one is read back as that.

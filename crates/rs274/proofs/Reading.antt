@@ -1,16 +1,15 @@
 -- A text read line by line: what is still to be read leads to the end. From the laws of lines.
 use mathlib.Core.Path.{_≡_, refl, sym, ap, subst, _∙_}
 use mathlib.Core.List.{List, [], _∷_}
-use Prim.Native.Nat.{ℕ, zero, suc, _+_, _-_, _≤_, _<_, min}
+use Prim.Native.Nat.{ℕ, suc, _+_, _-_, _≤_, _<_, min}
 use native.Mathlib.Decide.{decLe}
 use native.Mathlib.Nat.{le-of-eq, lt-of-not-le, min-eq-left}
 use native.Mathlib.Numerals.{add-one}
 use native.Mathlib.Omega.{arith}
 use lib.Dec.{lit≤}
-use lib.IntN.{pos, natAbs}
 use lib.ListN.{length, take, drop, length-drop, drop-of-length-le}
 use lib.Seq.{take-all, drop-drop}
-use Rattle.display.specs.Display.{refusalNumber, byNumber, Outcome, given, refused, Fault, _at_}
+use Rattle.display.specs.Display.{refusalNumber, Outcome, given, refused, Fault, _at_}
 use Rattle.display.specs.declared.Refusal.{Refusal}
 use Rattle.display.proofs.Answers.{refusal-above, at-zero, above-zero}
 use Rattle.machine.specs.declared.Block.{Block}

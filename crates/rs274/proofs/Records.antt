@@ -1,24 +1,24 @@
 -- The kept records written into the lent list, and what a text is answered. From the laws of a stored text.
 use mathlib.Core.Path.{_≡_, refl, sym, ap, subst, _∙_}
 use mathlib.Core.Bool.{Bool, true, false, not, cond}
-use mathlib.Core.List.{List, [], _∷_, _++_}
-use Prim.Native.Nat.{ℕ, zero, suc, _+_, _*_, _≤_, _<_}
+use mathlib.Core.List.{List, [], _++_}
+use Prim.Native.Nat.{ℕ, _+_, _*_, _≤_, _<_}
 use native.Mathlib.Omega.{arith}
 use borrow.Author.Tests.{lt-ltb, le-ltb, leb-true, leb-false}
 use lib.Dec.{leb, ltb}
 use lib.ListN.{length, take, drop}
-use Rattle.display.specs.Display.{refusalNumber, byNumber, Outcome, given, refused, Fault, _at_, _else_}
+use Rattle.display.specs.Display.{Outcome, given, refused, Fault, _at_}
 use Rattle.display.specs.declared.Refusal.{Refusal}
 use Rattle.display.specs.declared.Refusal.the-variants as why
-use Rattle.display.proofs.Answers.{refusal-above, at-zero, above-zero}
+use Rattle.display.proofs.Answers.{refusal-above, above-zero}
 use Rattle.machine.specs.declared.Block.{Block}
 use Rattle.tape.specs.Tape.{recordBytes}
 use Rattle.tape.specs.Answers.{raggedBelow}
 use Rattle.text.specs.Store.{put, Answered}
 use Rattle.text.specs.declared.Put.{Put}
 use Rattle.text.specs.declared.Put.the-variants.{At, NoRoom}
-use Rattle.rs274.specs.Answers.{blocksIn, faultIn, textBlocks, linesFault, recordsOf, textFault, textAnswer, textWritten, textMeans, WroteText}
-use Rattle.rs274.specs.Kept.{Holds, Reads, WroteKept}
+use Rattle.rs274.specs.Answers.{blocksIn, textBlocks, linesFault, recordsOf, textFault, textAnswer, textWritten, textMeans, WroteText}
+use Rattle.rs274.specs.Kept.{Reads, WroteKept}
 use Rattle.rs274.specs.Text.{textRun}
 use Rattle.rs274.specs.declared.TextAnswer.{TextAnswer}
 use Rattle.rs274.specs.declared.TextAnswer.the-variants as text

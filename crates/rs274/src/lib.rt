@@ -2,6 +2,7 @@
 // Nothing here knows a plan.
 pub mod line;
 pub mod state;
+pub mod tapes;
 pub mod whole;
 
 use display::Refusal;

@@ -63,6 +63,30 @@ power-below (suc (suc (suc (suc zero)))) h = lit≤ tt
 power-below (suc (suc (suc (suc (suc zero))))) h = lit≤ tt
 power-below (suc (suc (suc (suc (suc (suc i)))))) h = absurd (omega arith)
 
+-- Decimals in ten-thousandths: ten times the number for each digit that is missing.
+pub parts-next : (p k : ℕ) → k < mostDecimals → p * 10 ^ (mostDecimals - k) ≡ p * 10 * 10 ^ (mostDecimals - (k + 1))
+parts-next p zero h = omega arith
+parts-next p (suc zero) h = omega arith
+parts-next p (suc (suc zero)) h = omega arith
+parts-next p (suc (suc (suc zero))) h = omega arith
+parts-next p (suc (suc (suc (suc k)))) h = absurd (omega arith)
+
+pub parts-within : (p k : ℕ) → k ≤ mostDecimals → p ≤ p * 10 ^ (mostDecimals - k)
+parts-within p zero h = omega arith
+parts-within p (suc zero) h = omega arith
+parts-within p (suc (suc zero)) h = omega arith
+parts-within p (suc (suc (suc zero))) h = omega arith
+parts-within p (suc (suc (suc (suc zero)))) h = omega arith
+parts-within p (suc (suc (suc (suc (suc k))))) h = absurd (omega arith)
+
+pub parts-most : (p k : ℕ) → p < 100_000 → k ≤ mostDecimals → p * 10 ^ (mostDecimals - k) ≤ 1_000_000_000
+parts-most p zero l h = omega arith
+parts-most p (suc zero) l h = omega arith
+parts-most p (suc (suc zero)) l h = omega arith
+parts-most p (suc (suc (suc zero))) l h = omega arith
+parts-most p (suc (suc (suc (suc zero)))) l h = omega arith
+parts-most p (suc (suc (suc (suc (suc k))))) l h = absurd (omega arith)
+
 -- One to four digits alone.
 module _ (negative : Bool) (whole : ℕ) (s : List ℕ) where
   by-form : (t : Bool) → within 1 mostDecimals (length s) && eqb (length (leading digit s)) (length s) ≡ t

@@ -47,8 +47,8 @@ slot-below c z =
     (choice (isNumber 0 z || isNumber 1 z) (one motionSlot (lit< tt))
     (choice (isNumber 20 z || isNumber 21 z) (one unitSlot (lit< tt)) (choice (isNumber 90 z || isNumber 91 z) (one waySlot (lit< tt)) no)))
     (choice (eqb c 78) (one lineSlot (lit< tt))
-    (choice (eqb c 88) (one xSlot (lit< tt))
-    (choice (eqb c 89) (one ySlot (lit< tt)) (choice (eqb c 90) (one zSlot (lit< tt)) (choice (eqb c 70) (one feedSlot (lit< tt)) no)))))
+    (choice (eqb c 70) (one feedSlot (lit< tt))
+    (choice (eqb c 88) (one xSlot (lit< tt)) (choice (eqb c 89) (one ySlot (lit< tt)) (choice (eqb c 90) (one zSlot (lit< tt)) no)))))
 
 -- A slot is filled: it stands with the number, the others are as they were.
 module _ (w : Words) (sized : Sized (w .stands) (w .values)) (j : ℕ) (z : ℤ) (l : j < slots) where

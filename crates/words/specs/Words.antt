@@ -57,15 +57,13 @@ slotOfG z =
     (cond (isNumber 20 z || isNumber 21 z) (At unitSlot)
     (cond (isNumber 90 z || isNumber 91 z) (At waySlot) Unlisted))
 
--- the slot of a word by its letter, an ASCII byte, and its number
+-- the slot of an axis by its letter, an ASCII byte
+abbrev pub axisSlot : (letter : ℕ) → Slot
+axisSlot letter = cond (eqb letter 88) (At xSlot) (cond (eqb letter 89) (At ySlot) (cond (eqb letter 90) (At zSlot) Unlisted))
+
+-- the slot of a word by its letter and its number
 abbrev pub slotOf : (letter : ℕ) → ℤ → Slot
-slotOf letter z =
-    cond (eqb letter 71) (slotOfG z)
-    (cond (eqb letter 78) (At lineSlot)
-    (cond (eqb letter 88) (At xSlot)
-    (cond (eqb letter 89) (At ySlot)
-    (cond (eqb letter 90) (At zSlot)
-    (cond (eqb letter 70) (At feedSlot) Unlisted)))))
+slotOf letter z = cond (eqb letter 71) (slotOfG z) (cond (eqb letter 78) (At lineSlot) (cond (eqb letter 70) (At feedSlot) (axisSlot letter)))
 
 -- the words of a line: whether one stands in each slot, and its number, ten-thousandths
 pub record Words : Type 0 where

@@ -1,6 +1,6 @@
 // The number of a word, in ten-thousandths.
 ghost use mathlib.Core.Path.{_≡_};
-ghost use Prim.Native.Nat.{_-_, _^_, _<_, _≤_};
+ghost use Prim.Native.Nat.{_-_, _*_, _^_, _<_, _≤_};
 ghost use lib.ListN.{length};
 ghost use Rattle.text.specs.Text.{OnlyDigits, value};
 ghost use Rattle.words.specs.Number.{afterSign, mostDecimals, mostDigits, numberIn, ofDecimals, withDecimals};
@@ -30,21 +30,18 @@ fn value_of(s: &[u8]) -> u64
     number
 }
 
-// What the last of n decimals counts, ten-thousandths.
-fn scale(n: usize) -> u64
-    requires { ⌜ n ≤ mostDecimals ⌝ }
-    ensures { λ r. ⌜ (r ≡ 10 ^ (mostDecimals - n)) × (r ≤ 10_000) ⌝ }
+// Decimals in ten-thousandths: n digits that write this value, 10 times it for each digit that is missing.
+fn in_parts(value: u64, n: usize) -> u64
+    requires { ⌜ (value < 100_000) × (n ≤ mostDecimals) ⌝ }
+    ensures { λ r. ⌜ (r ≡ value * 10 ^ (mostDecimals - n)) × (r ≤ 1_000_000_000) ⌝ }
 {
-    if n == 4 {
-        return 1;
+    let mut parts = value;
+    let mut k = n;
+    while k < MOST_DECIMALS {
+        parts = parts * 10;
+        k += 1;
     }
-    if n == 3 {
-        return 10;
-    }
-    if n == 2 {
-        return 100;
-    }
-    if n == 1 { 1_000 } else { 10_000 }
+    parts
 }
 
 // The number with a sign, of whole digits that write `whole` and of decimals: one to four digits alone.
@@ -61,7 +58,7 @@ fn of_decimals(negative: bool, whole: u64, s: &[u8]) -> Number
     if digits(s) < s.len() {
         return Number::Bad;
     }
-    let parts = value_of(s) * scale(s.len());
+    let parts = in_parts(value_of(s), s.len());
     Number::Of(signed_by(negative, whole * PARTS + parts))
 }
 

@@ -3,7 +3,7 @@ ghost use mathlib.Core.Path.{_≡_};
 ghost use Prim.Native.Nat.{_<_};
 ghost use lib.ListN.{length};
 ghost use Rattle.words.specs.Steps.{Puts, Scanned, Sized, Stepped};
-ghost use Rattle.words.specs.Words.{InLine, isValue, slotOf, slotOfG, withLine, withSlot, withWord, wordsIn};
+ghost use Rattle.words.specs.Words.{InLine, axisSlot, isValue, slotOf, slotOfG, withLine, withSlot, withWord, wordsIn};
 use crate::ABSOLUTE;
 use crate::FEED;
 use crate::INCHES;
@@ -20,14 +20,13 @@ use crate::Step;
 use crate::UNIT;
 use crate::WAY;
 use crate::X;
-use crate::Y;
-use crate::Z;
 use crate::bytes::is_capital;
 use crate::bytes::numerals;
 use crate::numbers::read_number;
 use arith::signed::magnitude;
 use display::Checked;
 use display::Refusal;
+use fields::wide;
 
 // Whether a number is so many ten-thousandths.
 pub fn is_value(number: i64, v: u64) -> bool
@@ -55,6 +54,20 @@ fn slot_of_g(value: i64) -> Slot
     Slot::Unlisted
 }
 
+// The slot of an axis by its letter: X, Y and Z follow one another as their slots do. By a difference, since of a test for
+// each letter the compiler makes a table in read-only memory.
+fn axis_slot(letter: u8) -> Slot
+    ensures { λ r. ⌜ (r ≡ axisSlot letter) × InLine r ⌝ }
+{
+    if letter < b'X' {
+        return Slot::Unlisted;
+    }
+    if b'Z' < letter {
+        return Slot::Unlisted;
+    }
+    Slot::At(X + (wide(letter) - 88) as usize)
+}
+
 // The slot of a word by its letter and its number, ten-thousandths.
 fn slot_of(letter: u8, value: i64) -> Slot
     ensures { λ r. ⌜ (r ≡ slotOf letter value) × InLine r ⌝ }
@@ -65,19 +78,10 @@ fn slot_of(letter: u8, value: i64) -> Slot
     if letter == b'N' {
         return Slot::At(LINE);
     }
-    if letter == b'X' {
-        return Slot::At(X);
-    }
-    if letter == b'Y' {
-        return Slot::At(Y);
-    }
-    if letter == b'Z' {
-        return Slot::At(Z);
-    }
     if letter == b'F' {
         return Slot::At(FEED);
     }
-    Slot::Unlisted
+    axis_slot(letter)
 }
 
 // Puts a word in its slot: 12 where it is not listed, or one stands there already.

@@ -1,8 +1,5 @@
 -- `rs274::line::keep` meets its contract, by what becomes of the block.
-use mathlib.Core.Path.{_≡_, sym, subst, _∙_}
-use mathlib.Core.Bool.{true, false}
-use mathlib.Core.List.{List}
-use Prim.Native.Nat.{ℕ}
+use mathlib.Core.Path.{sym, subst, _∙_}
 use borrow.Author.Needs.{needs}
 use Rattle.rs274.specs.Kept.{Keeps}
 use Rattle.rs274.specs.Text.{withBlock}

@@ -1,5 +1,5 @@
 -- `rs274::line::take_line` meets its contract, by whether the line's words are right.
-use mathlib.Core.Path.{_≡_, sym, ap, subst, _∙_}
+use mathlib.Core.Path.{sym, subst}
 use borrow.Author.Needs.{needs}
 use Rattle.display.proofs.Answers.{told-refused, told-passed}
 use Rattle.words.specs.Words.{Words, wordsIn}

@@ -1,5 +1,5 @@
 -- `rs274::state::block_between` meets its contract, from the moves on each axis.
-use mathlib.Core.Path.{_≡_, _∙_}
+use mathlib.Core.Path.{_∙_}
 use borrow.Author.Needs.{needs}
 use Rattle.machine.specs.Labels.{plainBlock}
 use Rattle.rs274.specs.Modal.{blockBetween}

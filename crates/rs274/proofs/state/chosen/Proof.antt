@@ -1,5 +1,5 @@
 -- `rs274::state::chosen` meets its contract, by whether a word stands in the slot.
-use mathlib.Core.Path.{_≡_, ap, _∙_}
+use mathlib.Core.Path.{ap, _∙_}
 use borrow.Author.Needs.{needs}
 use lib.IntN.{pos}
 use lib.ListN.{getD}

@@ -1,10 +1,8 @@
 -- `rs274::state::feed_after` meets its contract, by whether an F stands on the line.
-use mathlib.Core.Path.{_≡_, ap, _∙_}
-use native.Mathlib.Omega.{arith}
+use mathlib.Core.Path.{ap, _∙_}
 use borrow.Author.Needs.{needs}
-use lib.IntN.{natAbs, pos}
+use lib.IntN.{pos}
 use lib.ListN.{getD}
-use Rattle.arith.proofs.SignedLaws.{readBack, small-back}
 use Rattle.rs274.specs.Modal.{feedOf}
 use Rattle.rs274.proofs.Positions.{chosen-word, chosen-before, word-back, word-fits}
 use Rattle.rs274.proofs.state.feed_after.Statement.{statement}

@@ -6,7 +6,6 @@ use lib.IntN.{ℤ, pos}
 use lib.ListN.{getD}
 use Rattle.words.specs.Words.{Words, wordsIn}
 use Rattle.rs274.specs.Modal.{positionOf, feedBy, modalAfter, standsIn, numberIn}
-use Rattle.rs274.specs.declared.Modal.{Modal}
 use Rattle.rs274.proofs.Positions.{place-fits, position-back, word-fits}
 use Rattle.rs274.proofs.state.modal_after.Statement.{statement}
 use Rattle.rs274.proofs.state.modal_after.Tie as tie

@@ -5,10 +5,8 @@ use Prim.Native.Nat.{ℕ, _+_, _-_, _≤_, _<_}
 use native.Mathlib.Omega.{arith}
 use borrow.Author.Needs.{needs}
 use lib.Dec.{lit≤}
-use lib.ListN.{length, take, drop}
+use lib.ListN.{length}
 use Rattle.tape.specs.Answers.{mostBlocks}
-use Rattle.words.specs.Leading.{leading}
-use Rattle.words.specs.Lines.{inLine}
 use Rattle.rs274.specs.Kept.{keptBytes}
 use Rattle.rs274.proofs.Reading.{Reading, Behind, reading-begins, reading-ends, reading-stops, reading-next, line-within, line-is, behind-is, behind-bounds}
 use Rattle.rs274.proofs.whole.read_lines.Statement.{statement}

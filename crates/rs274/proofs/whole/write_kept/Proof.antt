@@ -1,5 +1,5 @@
 -- `rs274::whole::write_kept` meets its contract, by whether the records have room.
-use mathlib.Core.Path.{_≡_, sym}
+use mathlib.Core.Path.{sym}
 use Prim.Native.Nat.{_*_}
 use borrow.Author.Needs.{needs}
 use lib.ListN.{take}

@@ -1,8 +1,7 @@
 -- `words::numbers::of_decimals` meets its contract, by what the tests say of the decimals.
 use mathlib.Core.Path.{_≡_, sym, ap, _∙_}
 use mathlib.Core.List.{List}
-use Prim.Native.Nat.{ℕ, _+_, _*_, _^_, _≤_, _<_}
-use native.Mathlib.Nat.{mul-le-mul}
+use Prim.Native.Nat.{ℕ, _+_, _-_, _*_, _^_}
 use native.Mathlib.Omega.{arith}
 use lib.ListN.{length}
 use borrow.Author.Needs.{needs}
@@ -10,7 +9,7 @@ use Rattle.arith.specs.Signed.{signedBy}
 use mir.Syntax.{w64}
 use mir.Facts.{toZ-ofZ}
 use Rattle.words.specs.Leading.{leading}
-use Rattle.words.specs.Number.{parts}
+use Rattle.words.specs.Number.{mostDecimals, parts}
 use Rattle.words.specs.Pieces.{digit}
 use Rattle.words.specs.declared.Number.the-variants.{Of}
 use Rattle.words.proofs.LeadingLaws.{length-leading}
@@ -38,27 +37,16 @@ module _ (c : tie.Else3) where
 value-of-requires : tie.Need-value-of-requires
 value-of-requires c κs = (all-digits (s c) (all c), omega (arith, c .before .before .if2 .left))
 
--- what the decimals add is below 10^9
-product : (a b : ℕ) → a < 100_000 → b ≤ 10_000 → a * b ≤ 100_000 * 10_000
-product a b h g = let small : a ≤ 100_000 = omega arith in mul-le-mul small g
-
-mul-parts : tie.Need-mul-parts
-mul-parts c = record { fits = omega (arith, product _ _ (c .before .value-of .ensures .1) (c .scale .ensures .1)) }
-
-add-signed-by : tie.Need-add-signed-by
-add-signed-by c = record { fits = omega (arith, product _ _ (c .before .value-of .ensures .1) (c .scale .ensures .1)) }
-
-signed-by-requires : tie.Need-signed-by-requires
-signed-by-requires c κs = omega (arith, product _ _ (c .before .value-of .ensures .1) (c .scale .ensures .1))
+in-parts-requires : tie.Need-in-parts-requires
+in-parts-requires c κs = (c .value-of .ensures .1, omega (arith, c .before .before .before .if2 .left))
 
 returns-4 : tie.Need-returns-4
 returns-4 c =
     let done = c .before .before .before in
     let a = done .before .before .before .before .before .args in
     let result = toZ-ofZ {w = w64} (record { sfits = c .signed-by .ok }) ∙ c .signed-by .ensures in
-    let value = c .before .before .value-of .ensures .0 in
-    let scale = c .before .scale .ensures .0 in
-    ap Of (result ∙ (λ i. signedBy (a .negative) (a .whole * parts + value i * scale i)))
+    let decimals = c .before .in-parts .ensures .0 ∙ ap (λ (v : ℕ). v * 10 ^ (mostDecimals - length (a .s .now))) (c .before .before .value-of .ensures .0) in
+    ap Of (result ∙ ap (λ (n : ℕ). signedBy (a .negative) (a .whole * parts + n)) decimals)
     ∙ sym (decimals-are (a .negative) (a .whole) (a .s .now) (omega (arith, done .before .before .before .if1 .left)) (omega (arith, done .before .before .if2 .left)) (all done))
 
 pub of-decimals-spec : {M : Type 1} → statement M
@@ -70,9 +58,8 @@ of-decimals-spec =
     (λ c κs. search needs)
     returns-3
     value-of-requires
-    (λ c κs. search needs)
-    mul-parts
+    in-parts-requires
     (λ c. search needs)
-    add-signed-by
-    signed-by-requires
+    (λ c. search needs)
+    (λ c κs. search needs)
     returns-4)

@@ -22,27 +22,13 @@ returns-3 : tie.Need-returns-3
 returns-3 c = (sym (ap (λ (b : ℕ). slotOf b (c .before .before .before .args .value)) (c .if3 .taken)), lit< tt)
 
 returns-4 : tie.Need-returns-4
-returns-4 c = (sym (ap (λ (b : ℕ). slotOf b (c .before .before .before .before .args .value)) (c .if4 .taken)), lit< tt)
-
-returns-5 : tie.Need-returns-5
-returns-5 c = (sym (ap (λ (b : ℕ). slotOf b (c .before .before .before .before .before .args .value)) (c .if5 .taken)), lit< tt)
-
-returns-6 : tie.Need-returns-6
-returns-6 c = (sym (ap (λ (b : ℕ). slotOf b (c .before .before .before .before .before .before .args .value)) (c .if6 .taken)), lit< tt)
-
-returns-7 : tie.Need-returns-7
-returns-7 c =
-    let b = c .before .before .before .before .before .before .args .letter in (
-      rw (
-        ne-eqb b 71 (c .before .before .before .before .before .if1 .left),
-        ne-eqb b 78 (c .before .before .before .before .if2 .left),
-        ne-eqb b 88 (c .before .before .before .if3 .left),
-        ne-eqb b 89 (c .before .before .if4 .left),
-        ne-eqb b 90 (c .before .if5 .left),
-        ne-eqb b 70 (c .if6 .left),
-      ),
-      tt,
+returns-4 c =
+    let e = c .before in
+    let b = e .before .before .before .args .letter in
+    (
+      c .axis-slot .ensures .0 ∙ rw (ne-eqb b 71 (e .before .before .if1 .left), ne-eqb b 78 (e .before .if2 .left), ne-eqb b 70 (e .if3 .left)),
+      c .axis-slot .ensures .1,
     )
 
 pub slot-of-spec : {M : Type 1} → statement M
-slot-of-spec = tie.close (tie.spec (λ c κs. search needs) returns returns-2 returns-3 returns-4 returns-5 returns-6 returns-7)
+slot-of-spec = tie.close (tie.spec (λ c κs. search needs) returns returns-2 returns-3 (λ c κs. search needs) returns-4)
