@@ -1,4 +1,5 @@
--- The laws of positions, feeds and blocks, of the list that keeps their records, of reading a text line by line, and of the tape that is made of it.
+-- The laws of positions, feeds and blocks, of the list that keeps their records, of reading a text line by line, and of the tape that is
+-- made of it; and worked examples.
 pub mod Positions
 pub mod Rounding
 pub mod Keeping

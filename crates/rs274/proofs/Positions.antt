@@ -9,12 +9,15 @@ use lib.IntN.{ℤ, pos, negsuc, natAbs, _+ℤ_, _-ℤ_, _*ℤ_, -ℤ-+ℤ-cancel
 use lib.Signed.{ltZ}
 use Rattle.arith.specs.Signed.{signedBy}
 use Rattle.arith.proofs.SignedLaws.{readBack, small-back, natAbs-neg, natAbs-sum, natAbs-minus, natAbs-product}
+use Rattle.machine.specs.Labels.{plainBlock}
 use Rattle.machine.specs.Ranges.{mostMove}
+use Rattle.machine.specs.declared.Block.{Block}
 use Rattle.tape.specs.Answers.{mostBlocks}
-use Rattle.words.specs.Words.{Words, xSlot, ySlot, zSlot}
+use Rattle.words.specs.Number.{parts}
+use Rattle.words.specs.Words.{Words, motionSlot, xSlot, ySlot, zSlot}
 use Rattle.rs274.specs.Bounds.{mostNumber, WordsWithin, Within}
 use Rattle.rs274.specs.Kept.{Near}
-use Rattle.rs274.specs.Modal.{standsIn, numberIn, unitOf, lengthIn, positionOf, feedOf, modalAfter, inchesAfter, incrementalAfter, roundedOf, moveOf}
+use Rattle.rs274.specs.Modal.{standsIn, numberIn, unitOf, lengthIn, positionOf, feedOf, modalAfter, inchesAfter, incrementalAfter, roundedOf, moveOf, chosenBy, feedBy, positionAfter, feedInForce, blockBetween}
 use Rattle.rs274.specs.declared.Modal.{Modal}
 
 -- A number that is a small one is read back as that.
@@ -64,7 +67,7 @@ module _ (p q before after : ℤ) (h : natAbs before < 2 ^ 41) (g : natAbs after
       (is ∙ (λ i. rounded-back p after g e i -ℤ rounded-back q before h f i))
 
 -- The move from one position as the code passes it to another.
-pub axis-back : (r before after : ℤ) → natAbs before < 2 ^ 41 → natAbs after < 2 ^ 41 → r ≡ moveOf (readBack before) (readBack after) → readBack r ≡ moveOf before after
+axis-back : (r before after : ℤ) → natAbs before < 2 ^ 41 → natAbs after < 2 ^ 41 → r ≡ moveOf (readBack before) (readBack after) → readBack r ≡ moveOf before after
 axis-back r before after h g e =
     back-as r (moveOf before after) (omega (arith, natAbs-minus (roundedOf after) (roundedOf before), rounded-small after g, rounded-small before h))
     (e ∙ (λ i. moveOf (small-back before (omega arith) i) (small-back after (omega arith) i)))
@@ -128,7 +131,7 @@ position-small inches true before true v h g = omega (arith, natAbs-sum before (
 position-small inches false before true v h g = omega (arith, natAbs-sum (pos 0) (lengthIn inches v), length-small inches v g)
 
 -- What the code has for it, and for the position before it.
-pub position-back : (inches incremental : Bool) (before : ℤ) (stands : Bool) (v r : ℤ) → natAbs before < 2 ^ 40 → natAbs v ≤ mostNumber
+position-back : (inches incremental : Bool) (before : ℤ) (stands : Bool) (v r : ℤ) → natAbs before < 2 ^ 40 → natAbs v ≤ mostNumber
     → r ≡ positionOf inches incremental (readBack before) stands (readBack v) → readBack r ≡ positionOf inches incremental before stands v
 position-back inches incremental before stands v r h g e =
     back-as r (positionOf inches incremental before stands v) (omega (arith, position-small inches incremental before stands v h g))
@@ -197,6 +200,44 @@ within-after m w h n =
       y = position-small (inchesAfter m w) (incrementalAfter m w) (m .y) (standsIn w ySlot) (numberIn w ySlot) (n .y) (h ySlot);
       z = position-small (inchesAfter m w) (incrementalAfter m w) (m .z) (standsIn w zSlot) (numberIn w zSlot) (n .z) (h zSlot);
     }
+
+-- What the code has for each field is what is in force behind a line,
+module _ (m : Modal) (w : Words) (small : WordsWithin w) (near : Within (2 ^ 40) m) (inches incremental : Bool) (unit : inches ≡ inchesAfter m w) (way : incremental ≡ incrementalAfter m w) where
+  axis-after : (k : ℕ) (before r : ℤ) → natAbs before < 2 ^ 40 → r ≡ positionOf inches incremental (readBack before) (standsIn w k) (readBack (numberIn w k))
+      → readBack r ≡ positionAfter m w k before
+  axis-after k before r h e =
+      position-back inches incremental before (standsIn w k) (numberIn w k) r h (small k) e
+      ∙ (λ i. positionOf (unit i) (way i) before (standsIn w k) (numberIn w k))
+
+  pub modal-is : (rapid : Bool) (x y z : ℤ) (feed : ℕ) → rapid ≡ chosenBy w motionSlot (0 * parts) (m .rapid)
+      → x ≡ positionOf inches incremental (readBack (m .x)) (standsIn w xSlot) (readBack (numberIn w xSlot))
+      → y ≡ positionOf inches incremental (readBack (m .y)) (standsIn w ySlot) (readBack (numberIn w ySlot))
+      → z ≡ positionOf inches incremental (readBack (m .z)) (standsIn w zSlot) (readBack (numberIn w zSlot)) → feed ≡ feedBy w inches (m .feed)
+      → record { inches = inches; incremental = incremental; rapid = rapid; x = readBack x; y = readBack y; z = readBack z; feed = feed } ≡ modalAfter m w
+  unfolding modalAfter
+  modal-is rapid x y z feed motion ex ey ez fed =
+      λ i.
+      record {
+        inches = unit i;
+        incremental = way i;
+        rapid = motion i;
+        x = axis-after xSlot (m .x) x (near .x) ex i;
+        y = axis-after ySlot (m .y) y (near .y) ey i;
+        z = axis-after zSlot (m .z) z (near .z) ez i;
+        feed = (fed ∙ ap (λ (b : Bool). feedBy w b (m .feed)) unit) i;
+      }
+
+-- and for each move, the block between two positions.
+pub block-is : (before after : Modal) (mark : ℕ) → Within (2 ^ 41) before → Within (2 ^ 41) after → (x y z : ℤ) (feed : ℕ) (b : Block)
+    → x ≡ moveOf (readBack (before .x)) (readBack (after .x)) → y ≡ moveOf (readBack (before .y)) (readBack (after .y))
+    → z ≡ moveOf (readBack (before .z)) (readBack (after .z)) → feed ≡ feedInForce after
+    → b ≡ plainBlock (readBack x) (readBack y) (readBack z) feed 0 mark → b ≡ blockBetween before after mark
+unfolding blockBetween
+block-is before after mark h g x y z feed b ex ey ez fed is =
+    is
+    ∙ (λ i.
+    plainBlock (axis-back x (before .x) (after .x) (h .x) (g .x) ex i) (axis-back y (before .y) (after .y) (h .y) (g .y) ey i)
+    (axis-back z (before .z) (after .z) (h .z) (g .z) ez i) (fed i) 0 mark)
 
 -- A block moves nothing where no axis moves.
 pub still : (a b c : ℕ) → (eqb a 0 && eqb b 0) && eqb c 0 ≡ eqb (max a (max b c)) 0

@@ -1,18 +1,11 @@
 -- `rs274::state::modal_after` meets its contract, field by field.
-use mathlib.Core.Path.{_≡_, ap, _∙_}
-use mathlib.Core.Bool.{Bool}
 use borrow.Author.Needs.{needs}
-use lib.IntN.{ℤ, pos}
+use lib.IntN.{pos}
 use lib.ListN.{getD}
-use Rattle.words.specs.Words.{Words, wordsIn}
-use Rattle.rs274.specs.Modal.{positionOf, feedBy, modalAfter, standsIn, numberIn}
-use Rattle.rs274.proofs.Positions.{place-fits, position-back, word-fits}
+use Rattle.words.specs.Words.{wordsIn}
+use Rattle.rs274.proofs.Positions.{place-fits, modal-is, word-fits}
 use Rattle.rs274.proofs.state.modal_after.Statement.{statement}
 use Rattle.rs274.proofs.state.modal_after.Tie as tie
-
--- what stands in the lists that are lent
-abbrev words : tie.Start → Words
-words s = wordsIn (s .args .stands .now) (s .args .values .now)
 
 position-of-requires : tie.Need-position-of-requires
 position-of-requires c κs =
@@ -35,7 +28,6 @@ feed-after-requires c κs =
     (s .pre .0, s .pre .1 .0)
 
 returns : tie.Need-returns
-unfolding modalAfter
 returns c =
     let z = c .before .before in
     let y = z .before .before .before .before in
@@ -43,22 +35,9 @@ returns c =
     let way = x .before .before .before .before in
     let unit = way .before in
     let s = unit .before .before in
-    let m = s .args .m in
-    let w = words s in
-    let places = s .pre .1 .1 in
-    let small = s .pre .1 .0 in
-    let at : (k : _) (before : ℤ) → positionOf (unit .chosen .result) (way .chosen2 .result) before (standsIn w k) (numberIn w k) ≡ _ =
-    λ k before i. positionOf (unit .chosen .ensures i) (way .chosen2 .ensures i) before (standsIn w k) (numberIn w k) in
-    λ i.
-    record {
-      inches = unit .chosen .ensures i;
-      incremental = way .chosen2 .ensures i;
-      rapid = c .before .chosen3 .ensures i;
-      x = (position-back (unit .chosen .result) (way .chosen2 .result) (m .x) (standsIn w 4) (numberIn w 4) (x .position-of .result) (places .x) (small 4) (x .position-of .ensures) ∙ at 4 (m .x)) i;
-      y = (position-back (unit .chosen .result) (way .chosen2 .result) (m .y) (standsIn w 5) (numberIn w 5) (y .position-of2 .result) (places .y) (small 5) (y .position-of2 .ensures) ∙ at 5 (m .y)) i;
-      z = (position-back (unit .chosen .result) (way .chosen2 .result) (m .z) (standsIn w 6) (numberIn w 6) (z .position-of3 .result) (places .z) (small 6) (z .position-of3 .ensures) ∙ at 6 (m .z)) i;
-      feed = (c .feed-after .ensures ∙ ap (λ (b : Bool). feedBy w b (m .feed)) (unit .chosen .ensures)) i;
-    }
+    modal-is (s .args .m) (wordsIn (s .args .stands .now) (s .args .values .now)) (s .pre .1 .0) (s .pre .1 .1) (unit .chosen .result) (way .chosen2 .result)
+    (unit .chosen .ensures) (way .chosen2 .ensures) (c .before .chosen3 .result) (x .position-of .result) (y .position-of2 .result) (z .position-of3 .result)
+    (c .feed-after .result) (c .before .chosen3 .ensures) (x .position-of .ensures) (y .position-of2 .ensures) (z .position-of3 .ensures) (c .feed-after .ensures)
 
 pub modal-after-spec : {M : Type 1} → statement M
 modal-after-spec =
