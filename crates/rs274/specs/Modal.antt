@@ -34,6 +34,10 @@ unitOf inches = cond inches 25_400 1_000
 abbrev pub hundredths : ℕ
 hundredths = 100
 
+-- a position rounded to the nearest µm, with the half away from zero
+unfoldable pub roundedOf : ℤ → ℤ
+roundedOf z = signedBy (ltZ z (pos 0)) ((natAbs z + hundredths / 2) / hundredths)
+
 -- a number of a position, ten-thousandths of its unit, in hundredths of a µm: an inch has 254 of them for each ten-thousandth, a millimetre 10
 unfoldable pub lengthIn : (inches : Bool) → ℤ → ℤ
 lengthIn inches v = v *ℤ pos (unitOf inches * hundredths / parts)
@@ -72,10 +76,6 @@ module _ (m : Modal) (w : Words) where
         z = positionAfter zSlot (m .z);
         feed = feedBy w inchesAfter (m .feed);
       }
-
--- a position rounded to the nearest µm, with the half away from zero
-unfoldable pub roundedOf : ℤ → ℤ
-roundedOf z = signedBy (ltZ z (pos 0)) ((natAbs z + hundredths / 2) / hundredths)
 
 -- the move on an axis between two positions, µm
 abbrev pub moveOf : (before after : ℤ) → ℤ
