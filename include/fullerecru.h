@@ -2,8 +2,9 @@
  *
  * Link with libfullerecru.a, for x86-64 Linux (ELF, System V calls); `rt staticlib fullerecru` makes
  * it. The library allocates nothing and keeps nothing between calls: all that it works on is lent
- * by the caller. Of the C library it calls memset alone. It has at most 192 bytes of read-only data.
- * A call needs under 1 kB of stack, fullerecru_replay under 8 kB and fullerecru_plan_tape under 34 kB.
+ * by the caller. Of the C library it calls memset and memcpy. It has at most 128 bytes of read-only data.
+ * A call needs under 1 kB of stack, fullerecru_replay under 8 kB, fullerecru_plan_tape and
+ * fullerecru_text under 34 kB.
  *
  * Units: lengths in µm, speeds in µm/s, squared speeds in (µm/s)², accelerations in µm/s², the
  * tick in microseconds. Every quantity is a whole number.
@@ -11,8 +12,8 @@
  * Answers: every function but fullerecru_told returns 0 where the call is accepted, else the number
  * of its refusal (see below). Where several refusals hold, the one given is the first in the order
  * that stands at the function. A refused call changes nothing that was lent, but for the place that
- * tells where a tape is at fault (fullerecru_plan_tape). Any numbers and any bytes are answered: the
- * ranges below are checked, not required.
+ * tells where a tape or a text is at fault (fullerecru_plan_tape, fullerecru_text). Any numbers and
+ * any bytes are answered: the ranges below are checked, not required.
  *
  * What the model leaves open: the acceleration limits hold along each block; at a junction the
  * velocity may step by as much as the corner jump J, and short chords make many such steps. On a
@@ -88,13 +89,19 @@ enum fullerecru_refusal {
     /* take with none held */
     FULLERECRU_REFUSED_EMPTY = 8,
     /* tape under 24 bytes, or its rest no multiple of 16; a trace likewise, by 28; for the limits
-     * or one record read or written alone, fewer bytes lent than it needs */
+     * or one record read or written alone, and for the records of a text, fewer bytes lent than it
+     * needs */
     FULLERECRU_REFUSED_RAGGED = 9,
-    /* tape longer than 32,792 bytes */
+    /* tape longer than 32,792 bytes; a text's block past 2,048 */
     FULLERECRU_REFUSED_MANY = 10,
     /* lent list of speeds not exactly one longer than the blocks; a replay's list not of its
      * size */
     FULLERECRU_REFUSED_LIST = 11,
+    /* in a text, any character but a space outside a word, or a word that is not listed or stands
+     * on its line already */
+    FULLERECRU_REFUSED_WORD = 12,
+    /* in a text, a word's number that is badly formed */
+    FULLERECRU_REFUSED_NUMBER = 13,
     /* loaded torque steps not of eight bytes, out of range or rising */
     FULLERECRU_REFUSED_STEPS = 14
 };
@@ -221,6 +228,22 @@ uint64_t fullerecru_plan_tape(const uint8_t *tape, size_t count, const uint8_t *
 uint64_t fullerecru_replay(const uint8_t *trace, size_t count, const uint8_t *steps,
                            size_t steps_count, uint64_t *answers, size_t numbers, uint64_t *plan,
                            size_t junctions, uint64_t told[1]);
+
+/* Writes the blocks of a program in RS-274 text as tape records, 16 bytes each, from the first byte
+ * of records on: with 24 bytes of limits before them they are a tape. Lines end in a line feed, the
+ * last perhaps without, and hold the words N, G0, G1, G20, G21, G90, G91, X, Y, Z and F, parted by
+ * spaces or not: a capital, an optional sign, 1 to 5 digits, and optionally a point with 1 to 4
+ * digits. Each letter but G stands at most once on a line, and so does each of the pairs G0/G1,
+ * G20/G21 and G90/G91. G20 counts inches, G21 millimetres; F is per minute. It begins in G21, G90, G1
+ * at zero with no feed. A block is the difference of two positions, each rounded to the nearest µm,
+ * the half away from zero; a zero difference is none. Its mark is the line's number from 1. size is
+ * the number of bytes of records.
+ *
+ * Refuses line by line by 12 or 13, by 3, 4 or 6 of its block, then by 10, and after all lines by 9.
+ * place[0] is written by every call: the number of the line at fault, counted from 1, else 0.
+ * Accepted, it also writes the records and blocks[0], the number of blocks. */
+uint64_t fullerecru_text(const uint8_t *text, size_t count, uint8_t *records, size_t size,
+                         uint64_t blocks[1], uint64_t place[1]);
 
 #ifdef __cplusplus
 }

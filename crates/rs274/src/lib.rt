@@ -1,7 +1,7 @@
 // Programs in RS-274 text: what the lines do, the blocks between their positions, and the records that are written of them.
 // Nothing here knows a plan.
-pub mod line;
-pub mod state;
+mod line;
+mod state;
 pub mod tapes;
 pub mod whole;
 
