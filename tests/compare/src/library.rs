@@ -64,6 +64,14 @@ extern "C" {
         junctions: usize,
         told: *mut u64,
     ) -> u64;
+    pub fn fullerecru_text(
+        text: *const u8,
+        count: usize,
+        records: *mut u8,
+        room: usize,
+        blocks: *mut u64,
+        place: *mut u64,
+    ) -> u64;
 }
 
 extern "C" {

@@ -1,4 +1,4 @@
-//! The programs planlist and planreplay.
+//! The programs planlist, planreplay and ngctape.
 
 use std::env;
 use std::ffi::OsStr;
@@ -34,6 +34,11 @@ pub fn planreplay() -> PathBuf {
     path("PLANREPLAY", "planreplay")
 }
 
+/// ngctape, or what NGCTAPE names.
+pub fn ngctape() -> PathBuf {
+    path("NGCTAPE", "ngctape")
+}
+
 /// Starts the program with its input and output; what it complains of is read.
 pub fn start(program: &PathBuf, input: Stdio, output: Stdio) -> Child {
     start_with(program, &[], input, output)
@@ -51,31 +56,47 @@ pub fn start_with(program: &PathBuf, words: &[&OsStr], input: Stdio, output: Std
         .unwrap_or_else(|error| panic!("{}: {error}", program.display()))
 }
 
-/// What a program wrote until it ended.
+/// What a program wrote until it ended, a tape or a text.
+#[derive(Debug)]
+pub struct Output {
+    /// To standard output, as far as that is a pipe.
+    pub bytes: Vec<u8>,
+    /// To standard error; bytes that are no text are kept as U+FFFD.
+    pub errors: String,
+}
+
+/// What a program that writes text wrote until it ended.
 #[derive(Debug)]
 pub struct Written {
-    /// To standard output, as far as that is a pipe.
     pub text: String,
-    /// To standard error; bytes that are no text are kept as U+FFFD.
     pub errors: String,
 }
 
 /// What the program writes until it ends by itself; panics if it does not end
 /// in time or ends with another status than 0.
-pub fn written_by(mut child: Child) -> Written {
-    let text = child.stdout.take().map(reader_of);
+pub fn output_of(mut child: Child) -> Output {
+    let own = child.stdout.take().map(reader_of);
     let errors = child.stderr.take().map(reader_of);
     let status = status_of(child);
     let bytes = |reader: Option<JoinHandle<Vec<u8>>>| match reader {
         Some(reader) => reader.join().expect("no panic"),
         None => Vec::new(),
     };
-    let written = Written {
-        text: String::from_utf8(bytes(text)).expect("text"),
+    let output = Output {
+        bytes: bytes(own),
         errors: String::from_utf8_lossy(&bytes(errors)).into_owned(),
     };
-    assert!(status.success(), "{status} after {written:?}");
-    written
+    assert!(status.success(), "{status} after {output:?}");
+    output
+}
+
+/// The same of a program that writes text.
+pub fn written_by(child: Child) -> Written {
+    let Output { bytes, errors } = output_of(child);
+    Written {
+        text: String::from_utf8(bytes).expect("text"),
+        errors,
+    }
 }
 
 /// Reads a pipe to its end.
@@ -132,21 +153,31 @@ pub fn run_in_pieces(program: &PathBuf, input: &[u8], piece: usize) -> String {
 
 /// What the program, started with arguments, writes for such an input.
 pub fn run_with(program: &PathBuf, words: &[&OsStr], input: &[u8], piece: usize) -> String {
-    let mut child = start_with(program, words, Stdio::piped(), Stdio::piped());
-    let writer = feed(&mut child, input, piece);
-    let text = text_of(child);
-    writer.join().expect("no panic");
+    let output = output_for(program, words, (input, piece), Stdio::piped());
+    let text = String::from_utf8(output.bytes).expect("text");
+    assert_eq!(output.errors, "", "after {text:?}");
     text
+}
+
+/// What the program, started with arguments and an output, writes for an input
+/// that comes in pieces of some bytes.
+pub fn output_for(
+    program: &PathBuf,
+    words: &[&OsStr],
+    (input, piece): (&[u8], usize),
+    output: Stdio,
+) -> Output {
+    let mut child = start_with(program, words, Stdio::piped(), output);
+    let writer = feed(&mut child, input, piece);
+    let output = output_of(child);
+    writer.join().expect("no panic");
+    output
 }
 
 /// What the program writes to standard error for an input when its text goes
 /// to the output.
 pub fn complaint(program: &PathBuf, input: &[u8], output: Stdio) -> String {
-    let mut child = start(program, Stdio::piped(), output);
-    let writer = feed(&mut child, input, usize::MAX);
-    let written = written_by(child);
-    writer.join().expect("no panic");
-    written.errors
+    output_for(program, &[], (input, usize::MAX), output).errors
 }
 
 /// What the program writes for an input.
@@ -159,24 +190,24 @@ pub fn steps_words(file: &Path) -> [&OsStr; 2] {
     [OsStr::new("--steps"), file.as_os_str()]
 }
 
-/// A file of torque steps, which is there as long as this value.
-struct StepsFile {
-    path: PathBuf,
+/// A file of torque steps or limits, which is there as long as this value.
+pub struct OwnFile {
+    pub path: PathBuf,
 }
 
-impl StepsFile {
+impl OwnFile {
     /// A new file of these bytes.
-    fn of(steps: &[u8]) -> StepsFile {
+    pub fn of(bytes: &[u8]) -> OwnFile {
         static MADE: AtomicU64 = AtomicU64::new(0);
         let number = MADE.fetch_add(1, Ordering::Relaxed);
-        let name = format!("compare.{}.{number}.steps", process::id());
+        let name = format!("compare.{}.{number}", process::id());
         let path = env::temp_dir().join(name);
-        fs::write(&path, steps).expect("a place for a file of steps");
-        StepsFile { path }
+        fs::write(&path, bytes).expect("a place for a file");
+        OwnFile { path }
     }
 }
 
-impl Drop for StepsFile {
+impl Drop for OwnFile {
     fn drop(&mut self) {
         let _ = fs::remove_file(&self.path);
     }
@@ -185,7 +216,7 @@ impl Drop for StepsFile {
 /// What the program writes for an input in pieces of some bytes when it loads a
 /// file of these steps, which is empty where they are.
 pub fn run_with_steps(program: &PathBuf, steps: &[u8], input: &[u8], piece: usize) -> String {
-    let file = StepsFile::of(steps);
+    let file = OwnFile::of(steps);
     run_with(program, &steps_words(&file.path), input, piece)
 }
 
@@ -197,4 +228,14 @@ pub fn run_under(seed: u64, program: &PathBuf, steps: &[u8], input: &[u8]) -> St
     } else {
         run_with_steps(program, steps, input, usize::MAX)
     }
+}
+
+/// What ngctape writes for a text in pieces of some bytes when its file of limits
+/// has these bytes; panics if it complains.
+pub fn tape_of(limits: &[u8], text: &[u8], piece: usize) -> Vec<u8> {
+    let file = OwnFile::of(limits);
+    let words = [file.path.as_os_str()];
+    let output = output_for(&ngctape(), &words, (text, piece), Stdio::piped());
+    assert_eq!(output.errors, "", "after {:?}", output.bytes);
+    output.bytes
 }

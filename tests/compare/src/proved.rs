@@ -177,6 +177,35 @@ pub fn replay(
     answer_of(number).map(|()| told.list()[0])
 }
 
+/// The blocks of a text as records from the first of the bytes; gives their
+/// number. The place is written by every call, the number only by one that is
+/// accepted.
+pub fn text_records(text: &[u8], records: &mut [u8]) -> Result<usize, Fault> {
+    let mut source = Guarded::new(text, BYTE_GUARD);
+    let mut lent = Guarded::new(records, BYTE_GUARD);
+    let (mut blocks, mut place) = (numbers(1), numbers(1));
+    let before = blocks.list().to_vec();
+    let number = unsafe {
+        fullerecru_text(
+            source.lend(),
+            text.len(),
+            lent.lend(),
+            records.len(),
+            blocks.lend(),
+            place.lend(),
+        )
+    };
+    source.confirm_only_read(text);
+    confirm(number, records, &lent);
+    confirm(number, &before, &blocks);
+    place.confirm();
+    records.copy_from_slice(lent.list());
+    let place = place.list()[0];
+    answer_of(number).map_err(|refusal| Fault { refusal, place })?;
+    assert_eq!(place, 0, "an accepted text has no line at fault");
+    Ok(blocks.list()[0] as usize)
+}
+
 /// A planner on lent memory.
 #[derive(Clone)]
 pub struct Planner {

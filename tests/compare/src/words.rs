@@ -7,7 +7,7 @@ use reference::refusal::Refusal;
 use reference::rng::Rng;
 
 /// Refusals with their numbers on the display.
-const REFUSALS: [(u64, Refusal); 12] = [
+const REFUSALS: [(u64, Refusal); 14] = [
     (1, Refusal::Limits),
     (2, Refusal::Still),
     (3, Refusal::Long),
@@ -19,6 +19,8 @@ const REFUSALS: [(u64, Refusal); 12] = [
     (9, Refusal::Ragged),
     (10, Refusal::Many),
     (11, Refusal::List),
+    (12, Refusal::Word),
+    (13, Refusal::Number),
     (14, Refusal::Steps),
 ];
 

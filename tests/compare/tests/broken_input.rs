@@ -1,8 +1,8 @@
 //! An input that cannot be read to its end is told on standard error, wherever
-//! its reads begin to fail: planlist then lists nothing, and planreplay writes
-//! only the lines of the chunks of calls that it has read whole.
+//! its reads begin to fail: planlist and ngctape then write nothing, and
+//! planreplay only the lines of the chunks of calls that it has read whole.
 
-use std::ffi::{c_char, c_int, CStr};
+use std::ffi::{c_char, c_int, CStr, OsStr};
 use std::fs::{self, File, OpenOptions};
 use std::io::{self, Read, Write};
 use std::net::{TcpListener, TcpStream};
@@ -10,17 +10,18 @@ use std::os::fd::{AsRawFd, OwnedFd};
 use std::os::unix::fs::OpenOptionsExt;
 use std::os::unix::net::UnixStream;
 use std::path::PathBuf;
-use std::process::{Command, Stdio};
+use std::process::{Child, Command, Stdio};
 use std::thread;
 use std::time::{Duration, Instant};
 
 use compare::programs::*;
 use compare::report;
-use reference::examples::example;
-use reference::generate::{calls, limits};
+use reference::examples::{example, example_text};
+use reference::generate::{calls, limits, machine_m};
 use reference::listing;
 use reference::rng::Rng;
-use reference::tape::{LIMITS_BYTES, MOST_BYTES};
+use reference::tape::{pack_limits, LIMITS_BYTES, MOST_BYTES};
+use reference::text::{self, MOST_TEXT_BYTES};
 use reference::trace::{pack_trace, CALL_BYTES};
 
 /// Calls that planreplay reads and runs at a time, and their bytes.
@@ -31,6 +32,8 @@ const CHUNK_BYTES: usize = CHUNK_CALLS * CALL_BYTES;
 struct Reading {
     name: &'static str,
     program: PathBuf,
+    /// A file that is named to it.
+    file: Option<OwnFile>,
     input: Vec<u8>,
     /// Each a list of places: the input is handed over up to the first, then,
     /// when that is read, up to the next; when all is read, the reads fail.
@@ -40,7 +43,7 @@ struct Reading {
     /// How many lines it writes for so many bytes and a read that fails.
     lines: fn(usize) -> usize,
     /// What it writes for the whole input.
-    text: String,
+    result: Vec<u8>,
 }
 
 fn planlist_reading() -> Reading {
@@ -49,6 +52,7 @@ fn planlist_reading() -> Reading {
     Reading {
         name: "planlist",
         program: planlist(),
+        file: None,
         breaks: vec![
             vec![],
             vec![1],
@@ -60,7 +64,7 @@ fn planlist_reading() -> Reading {
         ],
         room: |got| MOST_BYTES + 1 - got,
         lines: |_| 0,
-        text: listing::planlist(&input, &[]),
+        result: listing::planlist(&input, &[]).into_bytes(),
         input,
     }
 }
@@ -74,6 +78,7 @@ fn planreplay_reading() -> Reading {
     Reading {
         name: "planreplay",
         program: planreplay(),
+        file: None,
         breaks: vec![
             vec![],
             vec![7],
@@ -90,35 +95,76 @@ fn planreplay_reading() -> Reading {
             Some(calls) => CHUNK_BYTES - calls % CHUNK_BYTES,
         },
         lines: |got| got.saturating_sub(LIMITS_BYTES) / CHUNK_BYTES * CHUNK_CALLS,
-        text: listing::planreplay(&input, &[]),
+        result: listing::planreplay(&input, &[]).into_bytes(),
         input,
     }
+}
+
+/// The breaks lie inside words and lines, at their ends and in pieces.
+fn ngctape_reading() -> Reading {
+    let input = example_text("pocket-with-boss").expect("an example");
+    let input = input.into_bytes();
+    let limits = pack_limits(&machine_m(), 0);
+    let line = 1 + input.iter().position(|byte| *byte == b'\n').expect("lines");
+    let all = input.len();
+    Reading {
+        name: "ngctape",
+        program: ngctape(),
+        file: Some(OwnFile::of(&limits)),
+        breaks: vec![
+            vec![],
+            vec![1],
+            vec![line - 1],
+            vec![line],
+            vec![5, line, line + 7],
+            vec![1_000, all],
+            vec![all],
+        ],
+        room: |got| MOST_TEXT_BYTES + 1 - got,
+        lines: |_| 0,
+        result: text::ngctape(&limits, &input),
+        input,
+    }
+}
+
+fn readings() -> [Reading; 3] {
+    [planlist_reading(), planreplay_reading(), ngctape_reading()]
 }
 
 impl Reading {
     /// Panics unless the program has told that its input broke off after so
     /// many bytes, and has written no more than the lines that it may.
-    fn expect_broken(&self, got: usize, written: Written) {
-        let lines = self.text.split_inclusive('\n');
-        let text: String = lines.take((self.lines)(got)).collect();
+    fn expect_broken(&self, got: usize, output: Output) {
+        let lines = self.result.split_inclusive(|byte| *byte == b'\n');
+        let part: Vec<&[u8]> = lines.take((self.lines)(got)).collect();
         let told = format!(
             "{}: standard input could not be read to its end\n",
             self.name
         );
-        assert_eq!(written.errors, told, "{} after {got} bytes", self.name);
+        assert_eq!(output.errors, told, "{} after {got} bytes", self.name);
         assert!(
-            written.text == text,
-            "{} after {got} bytes: {:?}",
+            output.bytes == part.concat(),
+            "{} after {got} bytes: {}",
             self.name,
-            written.text
+            output.bytes.escape_ascii()
         );
+    }
+
+    /// The names of its files, as its words.
+    fn words(&self) -> Vec<&OsStr> {
+        self.file.iter().map(|file| file.path.as_os_str()).collect()
+    }
+
+    /// The program with an input.
+    fn start(&self, input: Stdio) -> Child {
+        start_with(&self.program, &self.words(), input, Stdio::piped())
     }
 
     /// Runs the program on the far end of a line; the near end hands over the
     /// input up to each place in turn, when what is before it is read, and is
     /// closed when all is read.
-    fn run(&self, (mut near, far): Line, places: &[usize]) -> Written {
-        let child = start(&self.program, Stdio::from(far), Stdio::piped());
+    fn run(&self, (mut near, far): Line, places: &[usize]) -> Output {
+        let child = self.start(Stdio::from(far));
         wait_for_read(child.id(), (self.room)(0));
         let mut got = 0;
         for place in places {
@@ -127,7 +173,7 @@ impl Reading {
             wait_for_read(child.id(), (self.room)(got));
         }
         drop(near);
-        written_by(child)
+        output_of(child)
     }
 }
 
@@ -227,7 +273,7 @@ fn done(answer: c_int) -> io::Result<()> {
 /// Breaks the lines of each reading wherever it says.
 fn break_all(line: fn() -> Line, what: &str) {
     let mut count = 0;
-    for reading in [planlist_reading(), planreplay_reading()] {
+    for reading in readings() {
         for places in &reading.breaks {
             let got = places.last().copied().unwrap_or(0);
             reading.expect_broken(got, reading.run(line(), places));
@@ -271,15 +317,15 @@ fn a_broken_line_fails_once() {
 /// The same lines, ended and not broken, are read whole.
 #[test]
 fn a_socket_that_ends_is_read_whole() {
-    for reading in [planlist_reading(), planreplay_reading()] {
+    for reading in readings() {
         for places in [vec![reading.input.len()], vec![100, reading.input.len()]] {
             let (near, far) = UnixStream::pair().expect("a pair of sockets");
-            let written = reading.run((Box::new(near), far.into()), &places);
-            assert_eq!(written.errors, "", "{}", reading.name);
-            assert!(written.text == reading.text, "{}", reading.name);
+            let output = reading.run((Box::new(near), far.into()), &places);
+            assert_eq!(output.errors, "", "{}", reading.name);
+            assert!(output.bytes == reading.result, "{}", reading.name);
         }
     }
-    report(4, "sockets that ended");
+    report(6, "sockets that ended");
 }
 
 /// A read that would have to wait, where the input is set not to, fails each
@@ -287,15 +333,14 @@ fn a_socket_that_ends_is_read_whole() {
 #[test]
 fn a_read_that_would_wait_is_no_end() {
     let mut count = 0;
-    for reading in [planlist_reading(), planreplay_reading()] {
+    for reading in readings() {
         for places in &reading.breaks {
             let got = places.last().copied().unwrap_or(0);
             let (mut near, far) = UnixStream::pair().expect("a pair of sockets");
             near.write_all(&reading.input[..got]).expect("room");
             far.set_nonblocking(true).expect("a socket");
-            let input = Stdio::from(OwnedFd::from(far));
-            let child = start(&reading.program, input, Stdio::piped());
-            reading.expect_broken(got, written_by(child));
+            let child = reading.start(Stdio::from(OwnedFd::from(far)));
+            reading.expect_broken(got, output_of(child));
             count += 1;
         }
     }
@@ -307,20 +352,21 @@ fn a_read_that_would_wait_is_no_end() {
 /// only, or not at all.
 #[test]
 fn an_input_that_cannot_be_read_is_told() {
-    for reading in [planlist_reading(), planreplay_reading()] {
+    for reading in readings() {
         let folder = File::open("/").expect("a folder");
         let sink = File::create("/dev/null").expect("/dev/null");
         for input in [folder, sink] {
-            let child = start(&reading.program, Stdio::from(input), Stdio::piped());
-            reading.expect_broken(0, written_by(child));
+            let child = reading.start(Stdio::from(input));
+            reading.expect_broken(0, output_of(child));
         }
         let mut closed = Command::new("sh");
         closed
-            .args(["-c", "exec \"$0\" <&-"])
+            .args(["-c", "exec \"$0\" \"$@\" <&-"])
             .arg(&reading.program)
+            .args(reading.words())
             .stdout(Stdio::piped())
             .stderr(Stdio::piped());
-        reading.expect_broken(0, written_by(closed.spawn().expect("sh")));
+        reading.expect_broken(0, output_of(closed.spawn().expect("sh")));
     }
-    report(6, "inputs that could not be read");
+    report(9, "inputs that could not be read");
 }

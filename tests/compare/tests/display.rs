@@ -76,6 +76,14 @@ fn tape_number(bytes: &[u8], steps: &[u8], junctions: usize) -> (u64, u64) {
     }
 }
 
+/// The number and the place of a text whose records go into a list of a length.
+fn text_number(text: &[u8], room: usize) -> (u64, u64) {
+    match proved::text_records(text, &mut vec![77; room]) {
+        Ok(_) => (0, 0),
+        Err(fault) => (fault.refusal.number(), fault.place),
+    }
+}
+
 /// The number of a trace run under steps, and those of its rows.
 fn trace_numbers(bytes: &[u8], steps: &[u8], numbers: usize, junctions: usize) -> (u64, Vec<u64>) {
     let mut rows = vec![77; numbers];
@@ -190,7 +198,7 @@ fn fields_come_back_as_they_were() {
 }
 
 /// The constants of the header, which is written by hand.
-const HEADER_NUMBERS: [(&str, u64); 27] = [
+const HEADER_NUMBERS: [(&str, u64); 29] = [
     ("NUMBERS", NUMBERS as u64),
     ("PLACES", 64),
     ("LIMITS", 9),
@@ -217,6 +225,8 @@ const HEADER_NUMBERS: [(&str, u64); 27] = [
     ("REFUSED_RAGGED", 9),
     ("REFUSED_MANY", 10),
     ("REFUSED_LIST", 11),
+    ("REFUSED_WORD", 12),
+    ("REFUSED_NUMBER", 13),
     ("REFUSED_STEPS", 14),
 ];
 
@@ -246,8 +256,8 @@ fn the_header_has_these_numbers_and_functions() {
     assert_eq!(found, HEADER_NUMBERS);
     let called = functions(include_str!("../src/library.rs"));
     assert_eq!(functions(header), called);
-    assert_eq!(called.len(), 11);
-    report(27 + 11, "constants and functions of the header");
+    assert_eq!(called.len(), 12);
+    report(29 + 12, "constants and functions of the header");
 }
 
 /// The numbers of a call for each of three lengths of what it is lent.
@@ -346,4 +356,97 @@ fn tapes_traces_and_planners_give_their_numbers() {
     assert_eq!(number(Planner::fresh(&machine_m(), few)), 14);
     assert_eq!(number(Planner::fresh(&machine_m(), fit)), 0);
     report(13 + 6 + 3, "numbers of tapes, traces and fresh planners");
+}
+
+/// Lines that are accepted behind a line that sets a feed, and such that are not,
+/// with the number of each: 12 and 13 by the first place at fault, 13 before 12
+/// in one word, both before the fields' numbers.
+const LINES: [(&str, u64); 40] = [
+    ("", 0),
+    ("N1 G1 G21 G90 X1 Y1 Z1 F60", 0),
+    (" G00 X-1000 ", 0),
+    ("X+1000.0004", 0),
+    ("F60000 X1", 0),
+    ("F0.06 X1", 0),
+    ("G20 X39.37", 0),
+    ("G91 X0.0004", 0),
+    ("X1000.0005", 3),
+    ("G0 Y-1001", 3),
+    ("G20 Z39.3701", 3),
+    ("F0 X2000", 3),
+    ("F-1 X1", 4),
+    ("F0.0599 X1", 4),
+    ("F60000.06 X1", 4),
+    ("G0 F60001 X1", 0),
+    ("F0", 0),
+    ("x1", 12),
+    ("X1;", 12),
+    ("X1\r", 12),
+    ("\tX1", 12),
+    ("X1 1", 12),
+    ("M30", 12),
+    ("G2", 12),
+    ("G-1", 12),
+    ("G1.5", 12),
+    ("G0 X1 G1", 12),
+    ("X1 Y1 X1", 12),
+    ("N1 N1", 12),
+    ("X", 13),
+    ("X 1", 13),
+    ("X.5", 13),
+    ("X5.", 13),
+    ("X123456", 13),
+    ("X1.23456", 13),
+    ("X--1", 13),
+    ("M", 13),
+    ("? X", 12),
+    ("X ?", 13),
+    ("X2000 M1", 12),
+];
+
+/// Each line behind one that sets a feed, and behind one more that is at fault or
+/// has a block more; a list that is too short decides after all lines.
+#[test]
+fn texts_give_their_numbers() {
+    for (line, expected) in LINES {
+        let at = |place| {
+            if expected == 0 {
+                (0, 0)
+            } else {
+                (expected, place)
+            }
+        };
+        let text = |before: &str| format!("F600\n{before}{line}").into_bytes();
+        assert_eq!(text_number(&text(""), 64), at(2), "{line:?}");
+        assert_eq!(text_number(&text("\n\n"), 64), at(4), "{line:?}");
+        assert_eq!(text_number(&text("M\n"), 64), (13, 2), "{line:?}");
+        let short = if expected == 0 { (9, 0) } else { (expected, 3) };
+        assert_eq!(text_number(&text("Z-0.0005\n"), 15), short, "{line:?}");
+    }
+    for (text, expected) in [
+        ("X1", (4, 1)),
+        ("\nX1F60\nF-1\nX2", (4, 4)),
+        ("G0X1", (0, 0)),
+    ] {
+        assert_eq!(text_number(text.as_bytes(), 32), expected, "{text:?}");
+    }
+    report(4 * LINES.len() + 3, "numbers of texts");
+}
+
+/// 10 and 6 at their lines, 6 before 10, and 9 after both.
+#[test]
+fn long_texts_give_their_numbers() {
+    let blocks = |count: usize| [&b"G0"[..], &b"\nX1\nX0".repeat(1_025)[..3 * count]].concat();
+    let most = blocks(MOST_BLOCKS);
+    let late = |count, lines| [blocks(count), vec![b'\n'; lines - count], b"Y1".to_vec()].concat();
+    assert_eq!(text_number(&most, 32_768), (0, 0));
+    assert_eq!(text_number(&most, 32_767), (9, 0));
+    assert_eq!(text_number(&blocks(MOST_BLOCKS + 1), 32_784), (10, 2_050));
+    assert_eq!(text_number(&blocks(MOST_BLOCKS + 1), 0), (10, 2_050));
+    assert_eq!(text_number(&late(2, 2_097_150), 48), (0, 0));
+    assert_eq!(text_number(&late(2, 2_097_150), 47), (9, 0));
+    assert_eq!(text_number(&late(2, 2_097_151), 0), (6, 2_097_152));
+    assert_eq!(text_number(&late(2_048, 2_097_151), 0), (6, 2_097_152));
+    assert_eq!(text_number(&late(2_048, 2_097_150), 0), (10, 2_097_151));
+    report(9, "numbers of long texts");
 }

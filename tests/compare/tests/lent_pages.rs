@@ -10,6 +10,7 @@
 use compare::guarded::{lend_at, Side, SIDES};
 use compare::library::{PLAN, ROW};
 use compare::proved::{self, Planner};
+use compare::texts::{bytes_of, compare_text};
 use compare::traces::{self, rows};
 use compare::words::some_steps;
 use compare::{hex, report, same, seeds, Trying};
@@ -20,6 +21,7 @@ use reference::quick;
 use reference::refusal::Refusal;
 use reference::rng::Rng;
 use reference::tape::{self, pack_limits, pack_record, Tape, LIMITS_BYTES, MOST_BLOCKS};
+use reference::text::text_blocks;
 use reference::trace::{pack_trace, CALL_BYTES};
 
 /// Runs once at each side, with a seed and numbers of its own.
@@ -218,6 +220,45 @@ fn a_trace_of_each_length_stays_in_its_bytes_and_lists() {
         }
     });
     report(2 * (249 + 201 + 61 + 68), "traces in lists of many lengths");
+}
+
+/// Texts of each length in bytes up to some lines, and lists of each length up to
+/// one byte more than a record beyond what all of them need.
+#[test]
+fn a_text_of_each_length_stays_in_its_bytes_and_list() {
+    let whole = b"F600 X1\nG91Y2.5\n\nG0 Z-1\nG20 X0.1 Y0.1";
+    at_both_sides(|seed, _, _| {
+        for length in 0..=whole.len() {
+            for room in 0..=bytes_of(5) + 1 {
+                let _ = compare_text(seed, &whole[..length], room);
+            }
+        }
+    });
+    report(
+        2 * (whole.len() + 1) * (bytes_of(5) + 2),
+        "texts of 0 to 40 bytes in lists of 0 to 81 bytes",
+    );
+}
+
+/// Texts that end at and near the borders of pages, whose last word is cut there,
+/// in lists of no byte, of a byte too few, and as long as they need.
+#[test]
+fn a_text_that_ends_at_a_page_stays_in_its_bytes_and_list() {
+    let whole = [&b"G0"[..], &b"\nX10\nX-1.5".repeat(1_000)].concat();
+    let lengths = || [4_096, 8_192].into_iter().flat_map(|n| n - 12..=n + 12);
+    at_both_sides(|seed, _, _| {
+        for length in lengths() {
+            let text = &whole[..length];
+            let exact = bytes_of(text_blocks(text).map_or(0, |blocks| blocks.len()));
+            for room in [0, exact.saturating_sub(1), exact] {
+                let _ = compare_text(seed, text, room);
+            }
+        }
+    });
+    report(
+        2 * lengths().count() * 3,
+        "texts that end near a page's end",
+    );
 }
 
 /// So many percentages of which none exceeds the one before it: eight pass.

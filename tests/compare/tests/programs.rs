@@ -1,4 +1,6 @@
-//! The programs planlist and planreplay write what the reference writes.
+//! The programs planlist and planreplay write what the reference writes, and
+//! all programs take their files in pieces. ngctape.rs has the rest of
+//! ngctape.
 
 use std::ffi::{c_char, c_int, c_uint, CString};
 use std::fs::{self, File};
@@ -19,6 +21,7 @@ use reference::listing;
 use reference::machine::{Block, Limits};
 use reference::rng::Rng;
 use reference::tape::{Tape, LIMITS_BYTES, MOST_BLOCKS, MOST_BYTES};
+use reference::text;
 use reference::trace::{pack_trace, Call, CALL_BYTES};
 
 /// Calls that planreplay reads and runs at a time.
@@ -231,6 +234,29 @@ fn programs_take_steps_in_pieces() {
         }
     }
     report(6, "steps in pieces");
+}
+
+/// Limits that come byte by byte, all of them and one byte less.
+#[test]
+fn ngctape_takes_limits_in_pieces() {
+    let tape = example("mould-row").expect("an example").pack();
+    for length in [LIMITS_BYTES - 1, LIMITS_BYTES] {
+        let limits = &tape[..length];
+        let pipe = named_pipe("limits.pipe");
+        let (path, bytes) = (pipe.clone(), limits.to_vec());
+        let writer = thread::spawn(move || write_bytes(&path, &bytes));
+        let words = [pipe.as_os_str()];
+        let output = output_for(&ngctape(), &words, (b"G0X1", usize::MAX), Stdio::piped());
+        assert_eq!(output.errors, "", "{length} bytes");
+        assert_eq!(
+            output.bytes,
+            text::ngctape(limits, b"G0X1"),
+            "{length} bytes"
+        );
+        writer.join().expect("no panic");
+        let _ = fs::remove_file(&pipe);
+    }
+    report(2, "limits in pieces");
 }
 
 #[test]
