@@ -16,6 +16,7 @@ bench:
 	rt staticlib fullerecru
 	rt staticlib arith_c
 	rt check planlist
+	rt check ngctape
 	tests/bench/run
 
 # make contracts: docs/CONTRACTS.txt, every public function with its contract, written again.

@@ -1,22 +1,30 @@
-//! What planlist takes, as processes.
+//! What planlist and ngctape take, as processes.
 
-use std::env;
-use std::fs::{self, File};
+use std::ffi::OsStr;
+use std::fs::File;
 use std::path::{Path, PathBuf};
 use std::process::Stdio;
 use std::time::Instant;
 
-use compare::programs::{planlist, run, start};
+use compare::programs::{ngctape, planlist, run, start_with, tape_of, OwnFile};
 use reference::generate::machine_m;
 use reference::listing;
 use reference::machine::Block;
-use reference::tape::{Tape, MOST_BLOCKS};
+use reference::tape::{pack_limits, Tape, MOST_BLOCKS};
+use reference::text;
 
 use crate::callgrind::instructions;
-use crate::{line, PATHS};
+use crate::texts::text_of;
+use crate::{line, paths, PATHS};
 
 /// Processes that are timed one after the other; the shortest time counts.
 const PROCESSES: usize = 500;
+
+/// A program and the names that it is started with.
+struct Tool {
+    program: PathBuf,
+    words: Vec<String>,
+}
 
 /// What one process takes: instructions, and time in ns.
 struct Cost {
@@ -28,62 +36,100 @@ struct Cost {
 /// beyond what it takes for a tape without blocks. False where a listing is not
 /// the reference's.
 pub fn report() -> bool {
-    let empty = cost(&tape_of(Vec::new()));
+    let tool = Tool {
+        program: planlist(),
+        words: Vec::new(),
+    };
+    let empty = tool.cost(&bytes_of(Vec::new()));
     let mut agree = true;
     for (name, path) in PATHS {
-        let tape = tape_of(path.blocks(MOST_BLOCKS));
-        let full = cost(&tape);
-        let counts = full.instructions.zip(empty.instructions);
-        let count = counts.map(|(full, empty)| per_record(full, empty));
-        line(&format!("planlist, {name}"), "instructions", [count, None]);
-        line("", "ns", [Some(per_record(full.time, empty.time)), None]);
-        line("", "µs a tape", [Some(full.time as f64 / 1e3), None]);
+        let tape = bytes_of(path.blocks(MOST_BLOCKS));
+        rows(
+            &format!("planlist, {name}"),
+            "µs a tape",
+            [&tool.cost(&tape), &empty],
+        );
         if run(&planlist(), &tape) != listing::planlist(&tape, &[]) {
             eprintln!("planlist, {name}: the listings differ");
             agree = false;
         }
     }
-    line(
-        "planlist, no block",
-        "µs a tape",
-        [Some(empty.time as f64 / 1e3), None],
-    );
+    whole("planlist, no block", "µs a tape", &empty);
     agree
 }
 
+/// Prints what ngctape takes for each line of the mould's text, beyond what it
+/// takes for a text without lines. False where a tape is not the reference's.
+pub fn report_text() -> bool {
+    let limits = pack_limits(&machine_m(), 0);
+    let file = OwnFile::of(&limits);
+    let tool = Tool {
+        program: ngctape(),
+        words: vec![file.path.to_str().expect("a path in text").to_string()],
+    };
+    let text = text_of(paths::Path::Mould);
+    let empty = tool.cost(b"");
+    rows("ngctape, mould", "µs a text", [&tool.cost(&text), &empty]);
+    whole("ngctape, no line", "µs a text", &empty);
+    let agree = tape_of(&limits, &text, usize::MAX) == text::ngctape(&limits, &text);
+    if !agree {
+        eprintln!("ngctape, mould: the tapes differ");
+    }
+    agree
+}
+
+/// Prints the share of a record in what a full input takes, and the time that the
+/// whole of it takes.
+fn rows(name: &str, unit: &str, [full, empty]: [&Cost; 2]) {
+    let counts = full.instructions.zip(empty.instructions);
+    let count = counts.map(|(full, empty)| per_record(full, empty));
+    line(name, "instructions", [count, None]);
+    line("", "ns", [Some(per_record(full.time, empty.time)), None]);
+    whole("", unit, full);
+}
+
+/// Prints the time of one process.
+fn whole(name: &str, unit: &str, cost: &Cost) {
+    line(name, unit, [Some(cost.time as f64 / 1e3), None]);
+}
+
 /// The bytes of a tape for machine M.
-fn tape_of(blocks: Vec<Block>) -> Vec<u8> {
+fn bytes_of(blocks: Vec<Block>) -> Vec<u8> {
     let limits = machine_m();
     Tape { limits, blocks }.pack()
 }
 
-/// Share of a record in the difference of a full tape and one without blocks.
+/// Share of a record in the difference of a full input and one without blocks.
 fn per_record(full: u64, empty: u64) -> f64 {
     (full as f64 - empty as f64) / MOST_BLOCKS as f64
 }
 
-/// What a process takes for a tape, its text thrown away.
-fn cost(tape: &[u8]) -> Cost {
-    let file: PathBuf = env::temp_dir().join(format!("bench.{}.tape", std::process::id()));
-    fs::write(&file, tape).expect("a place for a tape");
-    let cost = Cost {
-        instructions: instructions(&planlist(), &[], input(&file), None),
-        time: (0..PROCESSES).map(|_| time(&file)).min().unwrap_or(0),
-    };
-    let _ = fs::remove_file(&file);
-    cost
+impl Tool {
+    /// What a process takes for an input, its result thrown away.
+    fn cost(&self, bytes: &[u8]) -> Cost {
+        let file = OwnFile::of(bytes);
+        let words: Vec<&str> = self.words.iter().map(String::as_str).collect();
+        Cost {
+            instructions: instructions(&self.program, &words, input(&file.path), None),
+            time: (0..PROCESSES)
+                .map(|_| self.time(&file.path))
+                .min()
+                .unwrap_or(0),
+        }
+    }
+
+    /// Time of one process from start to end, ns.
+    fn time(&self, file: &Path) -> u64 {
+        let input = input(file);
+        let words: Vec<&OsStr> = self.words.iter().map(OsStr::new).collect();
+        let begin = Instant::now();
+        let status = start_with(&self.program, &words, input, Stdio::null()).wait();
+        let time = begin.elapsed().as_nanos() as u64;
+        assert!(status.expect("a child that ends").success());
+        time
+    }
 }
 
-/// Time of one process from start to end, ns.
-fn time(tape: &Path) -> u64 {
-    let input = input(tape);
-    let begin = Instant::now();
-    let status = start(&planlist(), input, Stdio::null()).wait();
-    let time = begin.elapsed().as_nanos() as u64;
-    assert!(status.expect("a child that ends").success());
-    time
-}
-
-fn input(tape: &Path) -> Stdio {
-    Stdio::from(File::open(tape).expect("the tape just written"))
+fn input(file: &Path) -> Stdio {
+    Stdio::from(File::open(file).expect("the file just written"))
 }

@@ -1,9 +1,11 @@
-//! Prints time and instructions of the proved planner and root beside those of
-//! the reference, and what planlist takes. Fails where the two differ.
+//! Prints time and instructions of the proved planner, root and reading of a text
+//! beside those of the reference, and what planlist and ngctape take. Fails where
+//! the two differ.
 
 mod callgrind;
 mod list;
 mod paths;
+mod texts;
 mod work;
 
 use std::env;
@@ -23,6 +25,7 @@ const WORKS: [(&str, Work); 3] = [
     ("tape", Work::Tape),
     ("root", Work::Root),
 ];
+const TEXTS: [(&str, Work); 1] = [("text", Work::Text)];
 const PATHS: [(&str, Path); 3] = [
     ("mould", Path::Mould),
     ("straight", Path::Straight),
@@ -43,13 +46,14 @@ fn main() -> ExitCode {
     match arguments.iter().map(String::as_str).collect::<Vec<_>>()[..] {
         [] => table(),
         ["count", work, path, side] => {
-            let (work, side) = (named(&WORKS, work), named(&SIDES, side));
+            let works = [&WORKS[..], &TEXTS].concat();
+            let (work, side) = (named(&works, work), named(&SIDES, side));
             let mut ready = Ready::new(work, side, named(paths(work), path), work.counted());
             println!("{}", ready.run());
             ExitCode::SUCCESS
         }
         _ => {
-            eprintln!("bench | bench count planner|tape|root PATH proved|reference");
+            eprintln!("bench | bench count planner|tape|root|text PATH proved|reference");
             ExitCode::FAILURE
         }
     }
@@ -60,6 +64,7 @@ fn paths(work: Work) -> &'static [(&'static str, Path)] {
     match work {
         Work::Planner | Work::Tape => &PATHS,
         Work::Root => &STEPS,
+        Work::Text => &PATHS[..1],
     }
 }
 
@@ -77,13 +82,33 @@ fn table() -> ExitCode {
         "{:<18} {:<20} {:>10} {:>10} {:>7}",
         "", "per block", "proved", "reference", "ratio"
     );
+    let agree = [
+        rows(&WORKS),
+        list::report(),
+        rows(&TEXTS),
+        list::report_text(),
+    ];
+    if agree == [true; 4] {
+        ExitCode::SUCCESS
+    } else {
+        ExitCode::FAILURE
+    }
+}
+
+/// Prints the rows of some works; false where the two sides found other numbers.
+fn rows(works: &[(&str, Work)]) -> bool {
     let mut agree = true;
-    for (work, doing) in WORKS {
+    for &(work, doing) in works {
         for &(path, over) in paths(doing) {
             let counts = SIDES.map(|(side, by)| count([work, path, side], doing, by));
             line(&format!("{work}, {path}"), "instructions", counts);
             let [proved, reference] = SIDES.map(|(_, side)| time(doing, side, over));
-            line("", "ns", [Some(proved.0), Some(reference.0)]);
+            let times = [proved.0, reference.0];
+            line("", "ns", times.map(Some));
+            if matches!(doing, Work::Text) {
+                // each block is a line
+                line("", "lines a second", times.map(|ns| Some(1e9 / ns)));
+            }
             if proved.1 != reference.1 {
                 eprintln!(
                     "{work}, {path}: the sums of what was found differ: {} and {}",
@@ -93,12 +118,7 @@ fn table() -> ExitCode {
             }
         }
     }
-    agree &= list::report();
-    if agree {
-        ExitCode::SUCCESS
-    } else {
-        ExitCode::FAILURE
-    }
+    agree
 }
 
 /// One line: both sides' numbers and proved / reference; a dash where there is

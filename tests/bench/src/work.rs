@@ -9,9 +9,11 @@ use reference::incremental::Planner;
 use reference::line::{LookAhead, PLACES};
 use reference::machine::{Block, Machine};
 use reference::quick;
-use reference::tape::{Tape, MOST_BLOCKS};
+use reference::tape::{Tape, MOST_BLOCKS, RECORD_BYTES};
+use reference::text::text_records;
 
 use crate::paths::Path;
+use crate::texts::text_of;
 
 /// Whose code runs.
 #[derive(Clone, Copy, Debug)]
@@ -32,14 +34,17 @@ pub enum Work {
     Tape,
     /// The root of the sum of each block's squared moves.
     Root,
+    /// The records of texts of 2,048 lines, each with a block.
+    Text,
 }
 
 impl Work {
-    /// Blocks in which instructions are counted: of tapes, ten whole ones.
+    /// Blocks in which instructions are counted: of tapes and texts, ten whole
+    /// ones.
     pub fn counted(self) -> usize {
         match self {
             Work::Planner | Work::Root => 20_000,
-            Work::Tape => 10 * MOST_BLOCKS,
+            Work::Tape | Work::Text => 10 * MOST_BLOCKS,
         }
     }
 
@@ -52,6 +57,8 @@ impl Work {
             (Work::Tape, Side::Reference) => "plan_reference",
             (Work::Root, Side::Proved) => "roots_proved",
             (Work::Root, Side::Reference) => "roots_reference",
+            (Work::Text, Side::Proved) => "read_proved",
+            (Work::Text, Side::Reference) => "read_reference",
         }
     }
 }
@@ -64,11 +71,13 @@ pub enum Ready {
     PlanReference(Machine, Vec<Block>, usize),
     RootsProved(Vec<u64>),
     RootsReference(Vec<u64>),
+    ReadProved(Vec<u8>, usize),
+    ReadReference(Vec<u8>, usize),
 }
 
 impl Ready {
-    /// Prepares the work for `count` blocks; those of tapes are rounded up to
-    /// whole tapes.
+    /// Prepares the work for `count` blocks; those of tapes and texts are rounded
+    /// up to whole ones.
     pub fn new(work: Work, side: Side, path: Path, count: usize) -> Ready {
         let limits = machine_m();
         match (work, side) {
@@ -98,6 +107,16 @@ impl Ready {
                     Side::Reference => Ready::RootsReference(sums),
                 }
             }
+            (Work::Text, side) => Ready::text(side, path, count.div_ceil(MOST_BLOCKS)),
+        }
+    }
+
+    /// Prepares so many runs over a text.
+    fn text(side: Side, path: Path, runs: usize) -> Ready {
+        let text = text_of(path);
+        match side {
+            Side::Proved => Ready::ReadProved(text, runs),
+            Side::Reference => Ready::ReadReference(text, runs),
         }
     }
 
@@ -107,12 +126,13 @@ impl Ready {
             Ready::FeedProved(_, blocks) | Ready::FeedReference(_, blocks) => blocks.len(),
             Ready::PlanProved(_, runs) | Ready::PlanReference(_, _, runs) => runs * MOST_BLOCKS,
             Ready::RootsProved(sums) | Ready::RootsReference(sums) => sums.len(),
+            Ready::ReadProved(_, runs) | Ready::ReadReference(_, runs) => runs * MOST_BLOCKS,
         }
     }
 
     /// Runs it and gives the sum of what is found: the squared speeds at the
-    /// exits of the blocks taken or every number of each plan, (µm/s)², or the
-    /// roots, µm.
+    /// exits of the blocks taken or every number of each plan, (µm/s)², the
+    /// roots, µm, or the records' words.
     pub fn run(&mut self) -> u64 {
         match self {
             Ready::FeedProved(memory, blocks) => feed_proved(memory, blocks),
@@ -121,6 +141,8 @@ impl Ready {
             Ready::PlanReference(machine, blocks, runs) => plan_reference(machine, blocks, *runs),
             Ready::RootsProved(sums) => roots_proved(sums),
             Ready::RootsReference(sums) => roots_reference(sums),
+            Ready::ReadProved(text, runs) => read_proved(text, *runs),
+            Ready::ReadReference(text, runs) => read_reference(text, *runs),
         }
     }
 }
@@ -230,4 +252,56 @@ fn roots_proved(sums: &[u64]) -> u64 {
 #[inline(never)]
 fn roots_reference(sums: &[u64]) -> u64 {
     sums.iter().map(|n| black_box(*n).isqrt()).sum()
+}
+
+/// The records of one text.
+type Records = [u8; RECORD_BYTES * MOST_BLOCKS];
+
+/// The sum of the words of a text's records, each by its place from 1, so that no
+/// two of them can change places unseen.
+fn words_of(records: &Records) -> u64 {
+    let words = records.chunks_exact(8).zip(1..);
+    let weighed = words.map(|(bytes, place)| {
+        let word = u64::from_be_bytes(bytes.try_into().expect("8 bytes"));
+        word.wrapping_mul(place)
+    });
+    weighed.fold(0, u64::wrapping_add)
+}
+
+/// From the text's bytes to the records.
+#[inline(never)]
+fn read_proved(text: &[u8], runs: usize) -> u64 {
+    let mut records: Records = [0; RECORD_BYTES * MOST_BLOCKS];
+    let (mut blocks, mut place) = ([0], [0]);
+    for _ in 0..runs {
+        let number = unsafe {
+            fullerecru_text(
+                text.as_ptr(),
+                text.len(),
+                records.as_mut_ptr(),
+                records.len(),
+                blocks.as_mut_ptr(),
+                place.as_mut_ptr(),
+            )
+        };
+        assert_eq!(
+            (number, blocks),
+            (0, [MOST_BLOCKS as u64]),
+            "a text that passes"
+        );
+        black_box(&mut records);
+    }
+    words_of(&records)
+}
+
+/// The same by the reference.
+#[inline(never)]
+fn read_reference(text: &[u8], runs: usize) -> u64 {
+    let mut records: Records = [0; RECORD_BYTES * MOST_BLOCKS];
+    for _ in 0..runs {
+        let blocks = text_records(black_box(text), &mut records);
+        assert_eq!(blocks, Ok(MOST_BLOCKS), "a text that passes");
+        black_box(&mut records);
+    }
+    words_of(&records)
 }
