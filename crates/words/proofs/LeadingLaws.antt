@@ -5,7 +5,7 @@ use mathlib.Core.List.{List, _∷_, _++_, []}
 use Prim.Native.Nat.{ℕ, zero, suc, _+_, _≤_, _<_}
 use native.Mathlib.Omega.{arith}
 use lib.ListN.{length, take, drop, getD, drop-of-length-le}
-use lib.Seq.{drop-cons}
+use lib.Seq.{drop-cons, take-nil}
 use Rattle.words.specs.Leading.{leading, behind}
 
 module _ (kind : ℕ → Bool) where
@@ -65,6 +65,30 @@ module _ (kind : ℕ → Bool) where
       go : (t : Bool) → length (leading kind s) ≤ length s → length {A = ℕ} (elim t [ true ↦ b ∷ leading kind s | false ↦ [] ]) ≤ suc (length s)
       go true h = omega (arith, h)
       go false h = omega arith
+
+  -- Of the first n bytes: fewer than n of the kind are all that the list begins with; n are, and perhaps more.
+  pub leading-first : (n : ℕ) (s : List ℕ) → length (leading kind (take n s)) < n → leading kind (take n s) ≡ leading kind s
+  unfolding leading
+  leading-first n [] h = ap (leading kind) (take-nil {A = ℕ} n)
+  leading-first zero (b ∷ s) h = absurd (omega arith)
+  leading-first (suc n) (b ∷ s) h = go (kind b) (leading-first n s) h
+    where
+      go : (t : Bool) → (length (leading kind (take n s)) < n → leading kind (take n s) ≡ leading kind s)
+          → length {A = ℕ} (elim t [ true ↦ b ∷ leading kind (take n s) | false ↦ [] ]) < suc n
+          → _≡_ {A = List ℕ} (elim t [ true ↦ b ∷ leading kind (take n s) | false ↦ [] ]) (elim t [ true ↦ b ∷ leading kind s | false ↦ [] ])
+      go true more l = ap (λ (r : List ℕ). b ∷ r) (more (omega (arith, l)))
+      go false more l = refl
+
+  pub leading-most : (n : ℕ) (s : List ℕ) → length (leading kind (take n s)) ≤ length (leading kind s)
+  unfolding leading
+  leading-most n [] = rw (take-nil {A = ℕ} n) (omega arith)
+  leading-most zero (b ∷ s) = omega arith
+  leading-most (suc n) (b ∷ s) = go (kind b) (leading-most n s)
+    where
+      go : (t : Bool) → length (leading kind (take n s)) ≤ length (leading kind s)
+          → length {A = ℕ} (elim t [ true ↦ b ∷ leading kind (take n s) | false ↦ [] ]) ≤ length {A = ℕ} (elim t [ true ↦ b ∷ leading kind s | false ↦ [] ])
+      go true l = omega (arith, l)
+      go false l = omega arith
 
   -- Counted from the left: at a byte of the kind there is one more, at another and at the list's end there are none.
   module _ (s : List ℕ) (i : ℕ) where

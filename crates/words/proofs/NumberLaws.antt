@@ -2,23 +2,25 @@
 use mathlib.Core.Path.{_≡_, refl, sym, ap, subst, _∙_}
 use mathlib.Core.Bool.{Bool, true, false, cond, _&&_}
 use mathlib.Core.List.{List, _∷_, []}
-use Prim.Native.Nat.{ℕ, zero, suc, _+_, _-_, _*_, _^_, _≤_, _<_}
-use native.Mathlib.Nat.{mul-comm}
+use Prim.Native.Nat.{ℕ, zero, suc, _+_, _-_, _*_, _^_, _≤_, _<_, min}
+use native.Mathlib.Decide.{decLe}
+use native.Mathlib.Nat.{lt-of-not-le, mul-comm}
 use native.Mathlib.Omega.{arith}
 use borrow.Author.Tests.{leb-true, le-leb, lt-leb, eq-eqb, ne-eqb}
 use lib.Dec.{lit≤, leb, eqb}
-use lib.ListN.{length, take, drop, getD}
+use lib.ListN.{length, take, drop, getD, drop-of-length-le}
 use lib.Pow.{pow-add}
 use lib.Seq.{take-length, drop-cons}
 use Rattle.arith.specs.Signed.{signedBy}
 use Rattle.arith.proofs.Tests.{both, fails-first, fails-second, meets}
 use Rattle.text.specs.Text.{OnlyDigits, value, valueBehind}
+use Rattle.words.specs.Digits.{lookedDigits}
 use Rattle.words.specs.Leading.{leading, behind}
 use Rattle.words.specs.Number.{afterSign, mostDecimals, mostDigits, numberIn, ofDecimals, parts, withDecimals}
 use Rattle.words.specs.Pieces.{digit, minus, plus, point, within}
 use Rattle.words.specs.declared.Number.{Number}
 use Rattle.words.specs.declared.Number.the-variants.{Of, Bad}
-use Rattle.words.proofs.LeadingLaws.{take-leading}
+use Rattle.words.proofs.LeadingLaws.{leading-first, leading-most, leading-no, leading-yes, take-leading}
 
 -- The digits that bytes begin with are digits alone, and so are bytes of which all are among them.
 pub leading-digits : (s : List ℕ) → OnlyDigits (leading digit s)
@@ -39,13 +41,43 @@ digit-at [] i d h = absurd (omega arith)
 digit-at (b ∷ s) zero d h = (d .0, d .1 .0)
 digit-at (b ∷ s) (suc i) d h = digit-at s i (d .1 .1) (omega arith)
 
--- Reading the next digit.
-pub value-next : (above : ℕ) (s : List ℕ) (i : ℕ) → i < length s → valueBehind above (drop i s) ≡ valueBehind (above * 10 + (getD s i 0 - 48)) (drop (i + 1) s)
-unfolding valueBehind
-value-next above s i h = ap (valueBehind above) (drop-cons s i 0 h) ∙ rw (one i)
-  where
-    one : (i : ℕ) → i + 1 ≡ suc i
-    one i = omega arith
+-- Reading the digits from place i on: one more, and none, at another byte or at the end.
+module _ (above : ℕ) (s : List ℕ) (i : ℕ) where
+  abbrev rest : List ℕ → ℕ
+  rest l = valueBehind above (leading digit l)
+
+  pub reads-yes : i < length s → digit (getD s i 0) ≡ true
+      → valueBehind above (leading digit (drop i s)) ≡ valueBehind (above * 10 + (getD s i 0 - 48)) (leading digit (drop (i + 1) s))
+  unfolding valueBehind
+  reads-yes h e =
+      ap rest (drop-cons s i 0 h) ∙ ap (valueBehind above) (leading-yes digit (getD s i 0) (drop (suc i) s) e)
+      ∙ ap (λ (n : ℕ). valueBehind (above * 10 + (getD s i 0 - 48)) (leading digit (drop n s))) (one i)
+    where
+      one : (i : ℕ) → suc i ≡ i + 1
+      one i = omega arith
+
+  pub reads-no : i < length s → digit (getD s i 0) ≡ false → valueBehind above (leading digit (drop i s)) ≡ above
+  unfolding valueBehind
+  reads-no h e = ap rest (drop-cons s i 0 h) ∙ ap (valueBehind above) (leading-no digit (getD s i 0) (drop (suc i) s) e)
+
+  pub reads-end : length s ≤ i → valueBehind above (leading digit (drop i s)) ≡ above
+  unfolding valueBehind leading
+  reads-end h = ap rest (drop-of-length-le s h)
+
+-- Of the bytes that are looked at: up to five digits are all that there are, and more are too many.
+module _ (s : List ℕ) (k : ℕ) (e : k ≡ min (length s) lookedDigits) where
+  pub looked-few : length (leading digit (take k s)) ≤ mostDigits → leading digit (take k s) ≡ leading digit s
+  looked-few h = elim (decLe lookedDigits (length s)) [
+    | yes l ↦
+        let six : k ≡ lookedDigits = omega (arith, e, l) in
+        ap (λ (n : ℕ). leading digit (take n s)) six ∙ leading-first digit lookedDigits s (omega (arith, rw six at h))
+    | no l ↦
+        let all : k ≡ length s = omega (arith, e, lt-of-not-le l) in
+        ap (λ (n : ℕ). leading digit (take n s)) all ∙ ap (leading digit) (take-length s)
+  ]
+
+  pub looked-many : mostDigits < length (leading digit (take k s)) → mostDigits < length (leading digit s)
+  looked-many h = omega (arith, h, leading-most digit k s)
 
 -- So many digits write a number below that power of ten.
 pub value-below : (n d i : ℕ) → n < 10 ^ i → d ≤ 57 → n * 10 + (d - 48) < 10 ^ (i + 1)

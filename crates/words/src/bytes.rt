@@ -6,7 +6,7 @@ ghost use Rattle.words.specs.Lines.{inLine};
 ghost use Rattle.words.specs.Pieces.{capital, digit, numeral};
 
 // Whether a byte is a digit.
-fn is_digit(b: u8) -> bool
+pub(crate) fn is_digit(b: u8) -> bool
     ensures { λ r. ⌜ r ≡ digit b ⌝ }
 {
     (48 <= b) & (b <= 57)
@@ -24,20 +24,6 @@ fn is_numeral(b: u8) -> bool
     ensures { λ r. ⌜ r ≡ numeral b ⌝ }
 {
     is_digit(b) | ((b == 43) | ((b == 45) | (b == 46)))
-}
-
-// How many digits the bytes begin with.
-pub(crate) fn digits(s: &[u8]) -> usize
-    ensures { λ r. ⌜ r ≡ length (leading digit (now (s .entry))) ⌝ }
-{
-    let mut i: usize = 0;
-    while i < s.len() {
-        if !is_digit(s[i]) {
-            return i;
-        }
-        i += 1;
-    }
-    i
 }
 
 // How many signs, digits and points the bytes begin with.

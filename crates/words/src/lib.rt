@@ -47,6 +47,14 @@ pub enum Number {
     Bad,
 }
 
+// Digits that stand at the beginning of bytes.
+struct Digits {
+    // how many
+    count: usize,
+    // the number that they write
+    value: u64,
+}
+
 // Where a word stands among a line's words.
 enum Slot {
     At(usize),

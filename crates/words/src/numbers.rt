@@ -1,11 +1,12 @@
 // The number of a word, in ten-thousandths.
 ghost use mathlib.Core.Path.{_≡_};
-ghost use Prim.Native.Nat.{_-_, _*_, _^_, _<_, _≤_};
+ghost use Prim.Native.Nat.{_-_, _*_, _^_, _<_, _≤_, min};
 ghost use lib.ListN.{length};
-ghost use Rattle.text.specs.Text.{OnlyDigits, value};
-ghost use Rattle.words.specs.Number.{afterSign, mostDecimals, mostDigits, numberIn, ofDecimals, withDecimals};
+ghost use Rattle.words.specs.Digits.{DigitsIn, digitsOf, lookedDigits};
+ghost use Rattle.words.specs.Number.{afterSign, mostDecimals, numberIn, ofDecimals, withDecimals};
+use crate::Digits;
 use crate::Number;
-use crate::bytes::digits;
+use crate::bytes::is_digit;
 use arith::signed::signed_by;
 use fields::wide;
 
@@ -16,18 +17,42 @@ const MOST_DECIMALS: usize = 4;
 
 pub const PARTS: u64 = 10_000;
 
-// The number that at most five digits write.
-fn value_of(s: &[u8]) -> u64
-    requires { ⌜ OnlyDigits (now s) × (length (now s) ≤ mostDigits) ⌝ }
-    ensures { λ r. ⌜ (r ≡ value (now (s .entry))) × (r < 100_000) ⌝ }
+// Digits that are looked at: one more than a number may have before its point, so that one too many shows itself.
+const LOOKED: usize = MOST_DIGITS + 1;
+
+// How many bytes are looked at for digits, of so many.
+fn looked(size: usize) -> usize
+    ensures { λ r. ⌜ r ≡ min size lookedDigits ⌝ }
 {
-    let mut number: u64 = 0;
+    if size < LOOKED { size } else { LOOKED }
+}
+
+// Digits by their number and the number that they write.
+fn digits_of(count: usize, value: u64) -> Digits
+    ensures { λ r. ⌜ r ≡ digitsOf count value ⌝ }
+{
+    Digits {
+        count: count,
+        value: value,
+    }
+}
+
+// The digits that at most six bytes begin with: how many, and the number that they write.
+fn read_digits(s: &[u8]) -> Digits
+    requires { ⌜ length (now s) ≤ lookedDigits ⌝ }
+    ensures { λ r. ⌜ DigitsIn (now (s .entry)) r ⌝ }
+{
+    let mut value: u64 = 0;
     let mut i: usize = 0;
     while i < s.len() {
-        number = number * 10 + (wide(s[i]) - 48);
+        let b = s[i];
+        if !is_digit(b) {
+            return digits_of(i, value);
+        }
+        value = value * 10 + (wide(b) - 48);
         i += 1;
     }
-    number
+    digits_of(i, value)
 }
 
 // Decimals in ten-thousandths: n digits that write this value, 10 times it for each digit that is missing.
@@ -55,10 +80,11 @@ fn of_decimals(negative: bool, whole: u64, s: &[u8]) -> Number
     if MOST_DECIMALS < s.len() {
         return Number::Bad;
     }
-    if digits(s) < s.len() {
+    let digits = read_digits(s);
+    if digits.count < s.len() {
         return Number::Bad;
     }
-    let parts = in_parts(value_of(s), s.len());
+    let parts = in_parts(digits.value, s.len());
     Number::Of(signed_by(negative, whole * PARTS + parts))
 }
 
@@ -80,14 +106,15 @@ fn with_decimals(negative: bool, whole: u64, rest: &[u8]) -> Number
 fn after_sign(negative: bool, s: &[u8]) -> Number
     ensures { λ r. ⌜ r ≡ afterSign negative (now (s .entry)) ⌝ }
 {
-    let n = digits(s);
+    let digits = read_digits(&s[..looked(s.len())]);
+    let n = digits.count;
     if n == 0 {
         return Number::Bad;
     }
     if MOST_DIGITS < n {
         return Number::Bad;
     }
-    with_decimals(negative, value_of(&s[..n]), &s[n..])
+    with_decimals(negative, digits.value, &s[n..])
 }
 
 // The number that a word's numerals write: an optional sign, 1 to 5 digits, and optionally a point with 1 to 4 digits.

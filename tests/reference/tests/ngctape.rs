@@ -128,11 +128,11 @@ fn what_arguments_ask_for() {
     let of = |words: &[&str]| named(words.iter().map(OsString::from));
     let limits = |name: &str| Ok(Named::Limits(OsString::from(name)));
     assert_eq!(of(&["a"]), limits("a"));
-    assert_eq!(of(&["-"]), limits("-"));
+    assert_eq!(of(&["./-x"]), limits("./-x"));
     assert_eq!(of(&["a b"]), limits("a b"));
     assert_eq!(of(&["--help"]), Ok(Named::Help));
     assert_eq!(of(&["--help", "a"]), Ok(Named::Help));
-    for wrong in [&[][..], &["--helps"], &["a", "b"], &["a", "--help"]] {
+    for wrong in [&[][..], &["--helps"], &["-"], &["-x"], &["a", "b"], &["a", "--help"]] {
         assert!(of(wrong).is_err(), "{wrong:?}");
     }
 }

@@ -1,19 +1,22 @@
 -- `words::numbers::of_decimals` meets its contract, by what the tests say of the decimals.
 use mathlib.Core.Path.{_≡_, sym, ap, _∙_}
 use mathlib.Core.List.{List}
-use Prim.Native.Nat.{ℕ, _+_, _-_, _*_, _^_}
+use Prim.Native.Nat.{ℕ, _+_, _-_, _*_, _^_, _≤_, _<_}
 use native.Mathlib.Omega.{arith}
-use lib.ListN.{length}
+use lib.ListN.{length, take}
+use lib.Seq.{take-length}
 use borrow.Author.Needs.{needs}
-use Rattle.arith.specs.Signed.{signedBy}
 use mir.Syntax.{w64}
 use mir.Facts.{toZ-ofZ}
+use Rattle.arith.specs.Signed.{signedBy}
+use Rattle.text.specs.Text.{value}
 use Rattle.words.specs.Leading.{leading}
 use Rattle.words.specs.Number.{mostDecimals, parts}
 use Rattle.words.specs.Pieces.{digit}
 use Rattle.words.specs.declared.Number.the-variants.{Of}
-use Rattle.words.proofs.LeadingLaws.{length-leading}
-use Rattle.words.proofs.NumberLaws.{all-digits, decimals-few, decimals-many, decimals-other, decimals-are}
+use Rattle.words.proofs.LeadingLaws.{length-leading, take-leading}
+use Rattle.words.proofs.NumberLaws.{all-digits, decimals-few, decimals-many, decimals-other, decimals-are, power-below}
+use Rattle.words.proofs.SizeLaws.{value-small}
 use Rattle.words.proofs.numbers.of_decimals.Statement.{statement}
 use Rattle.words.proofs.numbers.of_decimals.Tie as tie
 
@@ -24,30 +27,42 @@ returns-2 : tie.Need-returns-2
 returns-2 c = sym (decimals-many _ _ _ (c .if2 .taken))
 
 returns-3 : tie.Need-returns-3
-returns-3 c = sym (decimals-other _ _ _ (omega (arith, c .before .digits .ensures, c .if3 .taken)))
+returns-3 c = sym (decimals-other _ _ _ (omega (arith, c .before .before .read-digits .ensures .counted, c .if3 .taken)))
 
 -- the bytes are digits alone
 module _ (c : tie.Else3) where
+  abbrev read : tie.After-read-digits
+  read = c .before .before
+
   abbrev s : List ℕ
-  s = c .before .before .before .before .before .args .s .now
+  s = read .before .before .before .before .args .s .now
+
+  few : length s ≤ mostDecimals
+  few = omega (arith, read .before .if2 .left)
 
   all : length (leading digit s) ≡ length s
-  all = omega (arith, length-leading digit s, c .before .digits .ensures, c .if3 .left)
+  all = omega (arith, length-leading digit s, read .read-digits .ensures .counted, c .if3 .left)
 
-value-of-requires : tie.Need-value-of-requires
-value-of-requires c κs = (all-digits (s c) (all c), omega (arith, c .before .before .if2 .left))
+  whole : leading digit s ≡ s
+  whole = sym (take-leading digit s) ∙ ap (λ (n : ℕ). take n s) all ∙ take-length s
+
+  reads : read .read-digits .result .value ≡ value s
+  reads = read .read-digits .ensures .reads ∙ ap value whole
+
+  small : read .read-digits .result .value < 100_000
+  small = omega (arith, reads, value-small s (all-digits s all), power-below (length s) (omega (arith, few)))
 
 in-parts-requires : tie.Need-in-parts-requires
-in-parts-requires c κs = (c .value-of .ensures .1, omega (arith, c .before .before .before .if2 .left))
+in-parts-requires c κs = (small c, few c)
 
 returns-4 : tie.Need-returns-4
 returns-4 c =
-    let done = c .before .before .before in
-    let a = done .before .before .before .before .before .args in
+    let done = c .before .before in
+    let a = read done .before .before .before .before .args in
     let result = toZ-ofZ {w = w64} (record { sfits = c .signed-by .ok }) ∙ c .signed-by .ensures in
-    let decimals = c .before .in-parts .ensures .0 ∙ ap (λ (v : ℕ). v * 10 ^ (mostDecimals - length (a .s .now))) (c .before .before .value-of .ensures .0) in
+    let decimals = c .before .in-parts .ensures .0 ∙ ap (λ (v : ℕ). v * 10 ^ (mostDecimals - length (s done))) (reads done) in
     ap Of (result ∙ ap (λ (n : ℕ). signedBy (a .negative) (a .whole * parts + n)) decimals)
-    ∙ sym (decimals-are (a .negative) (a .whole) (a .s .now) (omega (arith, done .before .before .before .if1 .left)) (omega (arith, done .before .before .if2 .left)) (all done))
+    ∙ sym (decimals-are (a .negative) (a .whole) (s done) (omega (arith, read done .before .before .if1 .left)) (few done) (all done))
 
 pub of-decimals-spec : {M : Type 1} → statement M
 of-decimals-spec =
@@ -57,7 +72,6 @@ of-decimals-spec =
     returns-2
     (λ c κs. search needs)
     returns-3
-    value-of-requires
     in-parts-requires
     (λ c. search needs)
     (λ c. search needs)

@@ -41,8 +41,7 @@ add-t6 c = record { fits = omega (arith, bounds c) }
 
 returns-3 : tie.Need-returns-3
 returns-3 c =
-    let b = bounds c in
-    (
+    let b = bounds c in (
       axis (c .wide .result - 88) (omega (arith, b)) ∙ ap axisSlot (back (c .wide .result) (b .0) ∙ c .wide .ensures),
       omega (arith, b),
     )

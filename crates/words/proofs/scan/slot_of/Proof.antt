@@ -24,8 +24,7 @@ returns-3 c = (sym (ap (λ (b : ℕ). slotOf b (c .before .before .before .args 
 returns-4 : tie.Need-returns-4
 returns-4 c =
     let e = c .before in
-    let b = e .before .before .before .args .letter in
-    (
+    let b = e .before .before .before .args .letter in (
       c .axis-slot .ensures .0 ∙ rw (ne-eqb b 71 (e .before .before .if1 .left), ne-eqb b 78 (e .before .if2 .left), ne-eqb b 70 (e .if3 .left)),
       c .axis-slot .ensures .1,
     )
