@@ -132,7 +132,14 @@ fn what_arguments_ask_for() {
     assert_eq!(of(&["a b"]), limits("a b"));
     assert_eq!(of(&["--help"]), Ok(Named::Help));
     assert_eq!(of(&["--help", "a"]), Ok(Named::Help));
-    for wrong in [&[][..], &["--helps"], &["-"], &["-x"], &["a", "b"], &["a", "--help"]] {
+    for wrong in [
+        &[][..],
+        &["--helps"],
+        &["-"],
+        &["-x"],
+        &["a", "b"],
+        &["a", "--help"],
+    ] {
         assert!(of(wrong).is_err(), "{wrong:?}");
     }
 }
