@@ -64,10 +64,10 @@ fn main() {
     let order = read_file_order(
         b"ngctape",
         b"usage: ngctape LIMITS < text\n\
-        Makes a tape of a program in RS-274 words: N, G0, G1, G20, G21, G90, G91,\n\
-        X, Y, Z, F. LIMITS: a file that begins with the 24 bytes of a machine's limits,\n\
-        as every tape does. Writes those 24 bytes and 16 for each block, for planlist.\n\
-        A text that is refused gives `refused N at P`: P is the line from 1, or 0.\n",
+        Makes a tape of RS-274 text: words N, G0, G1, G20, G21, G90, G91, X, Y, Z and F.\n\
+        Writes 24 bytes of limits and 16 for each block; planlist lists such a tape.\n\
+        A text that is refused gives `refused N at P`: P is the line from 1, or 0.\n\
+        LIMITS: a file that begins with 24 bytes of limits, as every tape does.\n",
         &mut limits,
     );
     match order {
