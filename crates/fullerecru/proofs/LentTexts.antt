@@ -1,7 +1,7 @@
 -- From what the writer of a text's records promises to the promise of its function for C; two outcomes that meet it are equal.
 use mathlib.Core.List.{List, _∷_, []}
 use mathlib.Core.Path.{_≡_, refl, sym, ap, _∙_}
-use Prim.Native.Nat.{ℕ, zero, suc, _*_, _<_}
+use Prim.Native.Nat.{ℕ, zero, suc, _*_}
 use native.Mathlib.Omega.{arith}
 use lib.ListN.{length}
 use Rattle.display.specs.Display.{Fault, _at_, _else_, refusalNumber}

@@ -1,16 +1,13 @@
 -- The lines of a text. From the definitions.
-use mathlib.Core.Path.{_≡_, refl, sym, ap, _∙_}
+use mathlib.Core.Path.{_≡_, refl, ap}
 use mathlib.Core.Bool.{Bool, true, false, not}
-use mathlib.Core.List.{List, _∷_, _++_, []}
-use Prim.Native.Nat.{ℕ, suc, _+_, _<_}
-use native.Mathlib.Omega.{arith}
-use borrow.Author.Tests.{eqb-true}
+use mathlib.Core.List.{List, _∷_, []}
+use Prim.Native.Nat.{ℕ}
 use lib.Dec.{eqb}
-use lib.ListN.{length, drop}
+use lib.ListN.{drop}
 use Rattle.text.specs.Text.{lineFeed}
 use Rattle.words.specs.Leading.{leading, behind}
 use Rattle.words.specs.Lines.{inFront, linesOf, inLine, firstLine, behindLine}
-use Rattle.words.proofs.LeadingLaws.{leading-behind}
 
 -- A byte in front of a text: it ends an empty line, or begins the first.
 front : (b : ℕ) (text : List ℕ) → inFront b (linesOf text) ≡ (b ∷ firstLine text) ∷ linesOf (behindLine text)

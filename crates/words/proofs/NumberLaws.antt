@@ -18,7 +18,6 @@ use Rattle.words.specs.Digits.{lookedDigits}
 use Rattle.words.specs.Leading.{leading, behind}
 use Rattle.words.specs.Number.{afterSign, mostDecimals, mostDigits, numberIn, ofDecimals, parts, withDecimals}
 use Rattle.words.specs.Pieces.{digit, minus, plus, point, within}
-use Rattle.words.specs.declared.Number.{Number}
 use Rattle.words.specs.declared.Number.the-variants.{Of, Bad}
 use Rattle.words.proofs.LeadingLaws.{leading-first, leading-most, leading-no, leading-yes, take-leading}
 

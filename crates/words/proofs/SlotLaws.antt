@@ -1,10 +1,10 @@
 -- A word in its slot. From the definitions.
-use mathlib.Core.Path.{_≡_, refl, sym, ap, subst, _∙_}
+use mathlib.Core.Path.{_≡_, refl, sym, subst}
 use mathlib.Core.Bool.{Bool, true, false, cond}
 use mathlib.Core.List.{List}
 use Prim.Native.Nat.{ℕ, _<_}
 use lib.IntN.{ℤ}
-use lib.ListN.{getD, set}
+use lib.ListN.{getD}
 use Rattle.display.specs.Display.{given, refused}
 use Rattle.display.specs.declared.Refusal.the-variants as why
 use Rattle.display.specs.declared.Checked.{Checked}

@@ -1,8 +1,8 @@
 -- The words of a line from the left. From the laws of its pieces.
-use mathlib.Core.Path.{_≡_, refl, sym, ap, _∙_}
-use mathlib.Core.Bool.{Bool, true, false}
-use mathlib.Core.List.{List, _∷_, []}
-use Prim.Native.Nat.{ℕ, suc, _+_, _≤_, _<_}
+use mathlib.Core.Path.{_≡_, sym, ap, _∙_}
+use mathlib.Core.Bool.{true, false}
+use mathlib.Core.List.{List, _∷_}
+use Prim.Native.Nat.{ℕ, _+_, _≤_, _<_}
 use native.Mathlib.Omega.{arith}
 use lib.ListN.{length, take, drop, getD, length-drop}
 use lib.Seq.{drop-cons, drop-drop}
@@ -11,7 +11,7 @@ use Rattle.display.specs.declared.Refusal.{Refusal}
 use Rattle.display.specs.declared.Checked.the-variants.{Passed, Refused}
 use Rattle.text.specs.Text.{space}
 use Rattle.words.specs.Leading.{leading, behind}
-use Rattle.words.specs.Pieces.{Piece, word, stray, capital, numeral, piecesOf}
+use Rattle.words.specs.Pieces.{Piece, capital, numeral, piecesOf}
 use Rattle.words.specs.Steps.{Puts}
 use Rattle.words.specs.Words.{Words, Scan, scan, withWord, withPieces}
 use Rattle.words.proofs.LeadingLaws.{take-leading, drop-leading, length-leading}

@@ -1,5 +1,5 @@
 -- Document 02, Q-1: a line in pieces. A word is a capital and all signs, digits and points after it; spaces outside words are skipped.
-use mathlib.Core.Bool.{Bool, true, false, cond, _&&_, _||_}
+use mathlib.Core.Bool.{Bool, cond, _&&_, _||_}
 use mathlib.Core.List.{List, [], _∷_, _++_}
 use Prim.Native.Nat.{ℕ}
 use lib.Dec.{leb, eqb}

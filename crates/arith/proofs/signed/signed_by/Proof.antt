@@ -4,11 +4,10 @@ use Prim.Native.Nat.{ℕ, _^_, _<_}
 use native.Mathlib.Omega.{arith}
 use mathlib.Core.Bool.{Bool, cond}
 use borrow.Author.Needs.{needs}
-use lib.IntN.{ℤ, pos, negℤ, natAbs, _-ℤ_, +ℤ-idl}
+use lib.IntN.{ℤ, pos, negℤ, _-ℤ_, +ℤ-idl}
 use mir.Syntax.{w64}
 use mir.Val.{toZ}
 use mir.Facts.{toZ-pos}
-use Rattle.arith.specs.Signed.{signedBy}
 use Rattle.arith.proofs.SignedLaws.{natAbs-neg, fits-small, read-back}
 use Rattle.arith.proofs.signed.signed_by.Statement.{statement}
 use Rattle.arith.proofs.signed.signed_by.Tie as tie

@@ -1,8 +1,8 @@
 -- `words::numbers::with_decimals` meets its contract: nothing follows, another byte than the point, or decimals.
-use mathlib.Core.Path.{_≡_, sym, ap, _∙_}
+use mathlib.Core.Path.{sym, ap, _∙_}
 use native.Mathlib.Nat.{le-of-eq}
 use native.Mathlib.Omega.{arith}
-use lib.ListN.{length, drop, length-drop}
+use lib.ListN.{drop, length-drop}
 use lib.Seq.{take-all}
 use borrow.Author.Needs.{needs}
 use mir.Syntax.{w64}

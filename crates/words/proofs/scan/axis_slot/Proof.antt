@@ -1,11 +1,10 @@
 -- `words::scan::axis_slot` meets its contract: the difference from X is the axis's place.
-use mathlib.Core.Path.{_≡_, refl, sym, ap, subst, _∙_}
+use mathlib.Core.Path.{_≡_, refl, ap, _∙_}
 use Prim.Native.Nat.{ℕ, zero, suc, _+_, _-_, _≤_, _<_}
 use native.Mathlib.Omega.{arith}
 use borrow.Author.Needs.{needs}
 use borrow.Author.Tests.{ne-eqb}
-use lib.Dec.{lit<}
-use Rattle.words.specs.Words.{InLine, axisSlot}
+use Rattle.words.specs.Words.{axisSlot}
 use Rattle.words.specs.declared.Slot.the-variants.{At, Unlisted}
 use Rattle.words.proofs.scan.axis_slot.Statement.{statement}
 use Rattle.words.proofs.scan.axis_slot.Tie as tie

@@ -1,9 +1,8 @@
 -- `words::scan::is_value` meets its contract, by the number's sign.
-use mathlib.Core.Path.{_≡_, sym, ap, _∙_}
-use mathlib.Core.Bool.{Bool, true, false}
+use mathlib.Core.Path.{sym, ap, _∙_}
 use Prim.Native.Nat.{ℕ}
 use lib.Dec.{eqb}
-use lib.IntN.{ℤ, pos, negsuc, natAbs}
+use lib.IntN.{natAbs}
 use borrow.Author.Needs.{needs}
 use Rattle.arith.proofs.SignedLaws.{read-back, sign-back, negative, not-negative}
 use Rattle.words.specs.Words.{isValue}

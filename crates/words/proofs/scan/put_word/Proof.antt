@@ -1,5 +1,5 @@
 -- `words::scan::put_word` meets its contract, by what the number and the slot are. From `put-bad` and `put-of`.
-use mathlib.Core.Path.{_≡_, sym, ap, subst, _∙_}
+use mathlib.Core.Path.{sym, ap, subst, _∙_}
 use lib.IntN.{ℤ}
 use Rattle.arith.proofs.SignedLaws.{field-back}
 use Rattle.words.specs.Steps.{Puts}

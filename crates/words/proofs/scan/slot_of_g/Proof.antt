@@ -1,6 +1,6 @@
 -- `words::scan::slot_of_g` meets its contract: the tests are the definition's.
-use mathlib.Core.Path.{_≡_, refl, sym, ap, _∙_}
-use mathlib.Core.Bool.{Bool, true, false, cond, _||_}
+use mathlib.Core.Path.{_≡_, sym, ap, _∙_}
+use mathlib.Core.Bool.{Bool, cond, _||_}
 use lib.Dec.{lit<}
 use Prim.Native.Nat.{ℕ}
 use lib.IntN.{ℤ}
@@ -8,7 +8,7 @@ use mir.Syntax.{w64}
 use mir.Val.{SFits}
 use borrow.Author.Needs.{needs}
 use Rattle.arith.proofs.SignedLaws.{readBack, read-back}
-use Rattle.words.specs.Words.{isNumber, isValue, slotOfG, motionSlot, unitSlot, waySlot}
+use Rattle.words.specs.Words.{isNumber, isValue, motionSlot, unitSlot, waySlot}
 use Rattle.words.specs.declared.Slot.{Slot}
 use Rattle.words.specs.declared.Slot.the-variants.{At, Unlisted}
 use Rattle.words.proofs.scan.slot_of_g.Statement.{statement}
