@@ -11,7 +11,7 @@ use lib.Dec.{eqb, ltb, lit<, lit≤}
 use lib.ListN.{length, take, drop, getD, length-append, take-append-drop, List·getD-append}
 use lib.Seq.{take-all, drop-at, drop-drop, length-take-le, getD-append-add, ext-getD}
 use Rattle.display.specs.Display.{byNumber, _then_, Outcome, given, refused, orRefused, Fault, _at_}
-use Rattle.display.proofs.Answers.{at-zero, then-second, then-zero, picked, given-is}
+use Rattle.display.proofs.Answers.{above-zero, at-zero, then-first, then-second, then-zero, picked, given-is}
 use Rattle.fields.specs.Bytes.{bytesOf, withBytes}
 use Rattle.fields.proofs.Bytes.{length-bytes}
 use Rattle.machine.specs.Checks.{greatestMove, blockRefusal, limitsRefusal}
@@ -25,6 +25,7 @@ use Rattle.tape.proofs.Faults.{length-blocks, getD-blocks, tape-faultless}
 use Rattle.tape.proofs.Trips.{record-taken, record-written-read, limits-taken, limits-later, limits-written-read, limits-length}
 use Rattle.words.specs.Lines.{linesOf}
 use Rattle.words.specs.Words.{Words, wordsOf}
+use Rattle.rs274.specs.Meaning.{TapeOf}
 use Rattle.rs274.specs.Answers.{blocksIn, textBlocks, recordsOf}
 use Rattle.rs274.specs.Modal.{begin, modalAfter, blockBetween}
 use Rattle.rs274.specs.Text.{Run, runOf, manyBlocks, withBlock, withWords, withLine, withLines, textRun}
@@ -100,6 +101,7 @@ lines-fine p r (line ∷ rest) f = by (withLine p r line) (line-fine p r line f)
     by (given next) h more = more next h
     by (refused n) h more = tt
 
+-- The blocks of every text are so; a text with a fault has none.
 pub text-fine : (text : List ℕ) → Fine (textBlocks text)
 unfolding textBlocks textRun
 text-fine text = by (withLines 1 (runOf begin []) (linesOf text)) (lines-fine 1 (runOf begin []) (linesOf text) fine-none)
@@ -220,12 +222,6 @@ module _ (head : List ℕ) (l : Limits) (e : readLimits head ≡ given l) (block
       ext-getD noBlock (tapeBlocks tape) blocks (length-blocks tape ∙ tape-records)
       (λ k h. let g : k < length blocks = omega (arith, length-blocks tape, tape-records) in getD-blocks tape noBlock (omega (arith, tape-records)) ∙ record-is k g)
 
--- What a tape has that limits and a text make.
-pub record TapeOf (tape : List ℕ) (l : Limits) (blocks : List Block) : Type 0 where
-  pub passes : tapeRefusal tape ≡ 0
-  pub limits : tapeLimits tape ≡ l
-  pub says : tapeBlocks tape ≡ blocks
-
 -- Limits that the reader takes and the records of a text are a tape that passes, with these limits and the text's blocks;
 pub text-tape : (head text : List ℕ) (l : Limits) → readLimits head ≡ given l → TapeOf (take limitsBytes head ++ recordsOf (textBlocks text)) l (textBlocks text)
 text-tape head text l e =
@@ -239,3 +235,11 @@ text-tape-written l bytes text e h =
     let all : take limitsBytes (limitsWritten l bytes) ≡ limitsWritten l bytes = take-all limitsBytes (limitsWritten l bytes) (omega (arith, limits-length l bytes)) in
     subst (λ (s : List ℕ). TapeOf (s ++ recordsOf (textBlocks text)) l (textBlocks text)) all
     (text-tape (limitsWritten l bytes) text l (limits-written-read l bytes e (omega arith)))
+
+-- A line's block is refused by its own fault before 10, however many there are.
+pub own-first : (b : Block) (blocks : List Block) → eqb (greatestMove b) 0 ≡ false → 0 < blockRefusal b → withBlock b blocks ≡ refused (blockRefusal b)
+unfolding withBlock
+own-first b blocks e h =
+    ap (λ (t : Bool). cond t (given blocks) (orRefused (blockRefusal b then manyBlocks blocks) (blocks ++ b ∷ []))) e
+    ∙ ap (λ (n : ℕ). orRefused n (blocks ++ b ∷ [])) (then-first (manyBlocks blocks) h)
+    ∙ above-zero (given (blocks ++ b ∷ [])) (refused (blockRefusal b)) h

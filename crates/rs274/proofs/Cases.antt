@@ -1,4 +1,4 @@
--- Worked examples of document 02, Q-1, which compute: each text, as bytes, with the blocks or the refusal that it comes to.
+-- Worked texts, which compute: each text, as bytes, with the blocks or the refusal that it comes to.
 use mathlib.Core.Path.{_≡_, refl}
 use mathlib.Core.List.{List, _∷_, []}
 use Prim.Native.Nat.{ℕ}
@@ -80,6 +80,14 @@ table =
     ∷ case (88 ∷ 49 ∷ 46 ∷ 50 ∷ 51 ∷ 52 ∷ 53 ∷ 54 ∷ []) (refused (13 at 1))
     -- no whole number: `G1.5`
     ∷ case (71 ∷ 49 ∷ 46 ∷ 53 ∷ []) (refused (12 at 1))
+    -- G1 ends G0: `G0 X1\nG1 F60 X2`
+    ∷ case (71 ∷ 48 ∷ 32 ∷ 88 ∷ 49 ∷ 10 ∷ 71 ∷ 49 ∷ 32 ∷ 70 ∷ 54 ∷ 48 ∷ 32 ∷ 88 ∷ 50 ∷ []) (given (block (pos 1000) (pos 0) (pos 0) 1000000 1 ∷ block (pos 1000) (pos 0) (pos 0) 1000 2 ∷ []))
+    -- G90 ends G91: `G91 G0 X1\nG90 X0.5`
+    ∷ case (71 ∷ 57 ∷ 49 ∷ 32 ∷ 71 ∷ 48 ∷ 32 ∷ 88 ∷ 49 ∷ 10 ∷ 71 ∷ 57 ∷ 48 ∷ 32 ∷ 88 ∷ 48 ∷ 46 ∷ 53 ∷ []) (given (block (pos 1000) (pos 0) (pos 0) 1000000 1 ∷ block (negsuc 499) (pos 0) (pos 0) 1000000 2 ∷ []))
+    -- a small letter: `x`
+    ∷ case (120 ∷ []) (refused (12 at 1))
+    -- a comma: `X1,5`
+    ∷ case (88 ∷ 49 ∷ 44 ∷ 53 ∷ []) (refused (12 at 1))
     ∷ []
 
 worked : runs table ≡ expected table

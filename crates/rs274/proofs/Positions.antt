@@ -15,7 +15,8 @@ use Rattle.machine.specs.declared.Block.{Block}
 use Rattle.tape.specs.Answers.{mostBlocks}
 use Rattle.words.specs.Number.{parts}
 use Rattle.words.specs.Words.{Words, motionSlot, xSlot, ySlot, zSlot}
-use Rattle.rs274.specs.Bounds.{mostNumber, WordsWithin, Within}
+use Rattle.words.specs.Number.{mostNumber}
+use Rattle.rs274.specs.Bounds.{WordsWithin, Within}
 use Rattle.rs274.specs.Kept.{Near}
 use Rattle.rs274.specs.Modal.{standsIn, numberIn, unitOf, lengthIn, positionOf, feedOf, modalAfter, inchesAfter, incrementalAfter, roundedOf, moveOf, chosenBy, feedBy, positionAfter, feedInForce, blockBetween}
 use Rattle.rs274.specs.declared.Modal.{Modal}

@@ -1,24 +1,18 @@
 -- That positions are rounded to the nearest µm with the half away from zero, and feeds rounded down. From arith's laws of quotients.
-use mathlib.Core.Path.{_≡_, ap, sym}
+use mathlib.Core.Path.{ap, sym}
 use mathlib.Core.Bool.{Bool}
 use Prim.Native.Nat.{ℕ, _*_, _/_, _≤_}
 use native.Mathlib.Omega.{arith}
 use lib.Dec.{lit<}
 use lib.IntN.{ℤ, pos, natAbs}
 use lib.Signed.{ltZ}
-use Rattle.arith.specs.Nearest.{NearestHalfUp}
 use Rattle.arith.specs.Signed.{orZero, signedBy}
 use Rattle.arith.proofs.NearestLaws.{half-up-quotient}
-use Rattle.words.specs.Number.{parts}
-use Rattle.rs274.specs.Modal.{unitOf, hundredths, feedOf, roundedOf}
+use Rattle.rs274.specs.Meaning.{NearestMicron, LargestFeed}
+use Rattle.rs274.specs.Modal.{unitOf, feedOf, roundedOf}
 use Rattle.rs274.proofs.Positions.{rounded-size}
 
--- A rounded position has the position's sign, and its size, µm, is the whole number nearest to the position's, hundredths of a µm: an exact half goes up,
--- which is away from zero.
-pub record NearestMicron (z rounded : ℤ) : Type 0 where
-  pub size : NearestHalfUp (natAbs z) hundredths (natAbs rounded)
-  pub sign : rounded ≡ signedBy (ltZ z (pos 0)) (natAbs rounded)
-
+-- A position is rounded so.
 pub rounded-nearest : (z : ℤ) → NearestMicron z (roundedOf z)
 unfolding roundedOf
 rounded-nearest z =
@@ -27,11 +21,7 @@ rounded-nearest z =
       sign = ap (signedBy (ltZ z (pos 0))) (sym (rounded-size z));
     }
 
--- A feed is the largest whole number of µm/s that is not above its number, ten-thousandths of its unit per minute.
-pub record LargestFeed (inches : Bool) (v : ℤ) (feed : ℕ) : Type 0 where
-  pub not-above : feed * (60 * parts) ≤ orZero v * unitOf inches
-  pub largest : (f : ℕ) → f * (60 * parts) ≤ orZero v * unitOf inches → f ≤ feed
-
+-- A feed is rounded down so.
 pub feed-down : (inches : Bool) (v : ℤ) → LargestFeed inches v (feedOf inches v)
 unfolding feedOf
 feed-down inches v = record { not-above = below (orZero v * unitOf inches); largest = λ f h. most (orZero v * unitOf inches) f h }

@@ -2,12 +2,9 @@
 use Prim.Native.Nat.{ℕ, _≤_, _<_}
 use lib.IntN.{pos, natAbs}
 use lib.ListN.{getD}
+use Rattle.words.specs.Number.{mostNumber}
 use Rattle.words.specs.Words.{Words}
 use Rattle.rs274.specs.declared.Modal.{Modal}
-
--- the greatest number of a word, ten-thousandths: five digits and four decimals
-abbrev pub mostNumber : ℕ
-mostNumber = 999_999_999
 
 -- every number of a line is one of those
 abbrev pub WordsWithin : Words → Type 0

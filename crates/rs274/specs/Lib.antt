@@ -3,4 +3,5 @@ pub mod Modal
 pub mod Bounds
 pub mod Text
 pub mod Answers
+pub mod Meaning
 pub mod Kept

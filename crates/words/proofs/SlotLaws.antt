@@ -17,6 +17,7 @@ use Rattle.words.specs.declared.Number.the-variants.{Of, Bad}
 use Rattle.words.specs.declared.Slot.{Slot}
 use Rattle.words.specs.declared.Slot.the-variants.{At, Unlisted}
 
+-- A word that is not listed, one whose slot is taken, and one whose slot is free.
 module _ (slot : Slot) (z : ℤ) (w : Words) where
   pub put-unlisted : slot ≡ Unlisted → Puts (withSlot slot z w) w (Refused why.Word) w
   put-unlisted e = subst (λ (s : Slot). Puts (withSlot s z w) w (Refused why.Word) w) (sym e) (refl, refl)
