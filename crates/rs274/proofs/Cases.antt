@@ -91,5 +91,5 @@ table =
     ∷ []
 
 worked : runs table ≡ expected table
-unfolding table runs expected textRun withLines withLine withWords withBlock modalAfter positionOf lengthIn feedOf roundedOf blockBetween linesOf line.withLine withPieces withWord piecesFrom numberIn afterSign withDecimals ofDecimals leading behind valueBehind greatestMove blockRefusal
+unfolding table runs expected textRun withLines withLine withWords withBlock modalAfter positionOf lengthIn feedOf roundedOf blockBetween linesOf line.behindWords withPieces withWord piecesFrom numberIn afterSign withDecimals ofDecimals leading behind valueBehind greatestMove blockRefusal
 worked = refl

@@ -18,7 +18,7 @@ use Rattle.words.specs.Words.{Words, motionSlot, xSlot, ySlot, zSlot}
 use Rattle.words.specs.Number.{mostNumber}
 use Rattle.rs274.specs.Bounds.{WordsWithin, Within}
 use Rattle.rs274.specs.Kept.{Near}
-use Rattle.rs274.specs.Modal.{standsIn, numberIn, unitOf, lengthIn, positionOf, feedOf, modalAfter, inchesAfter, incrementalAfter, roundedOf, moveOf, chosenBy, feedBy, positionAfter, feedInForce, blockBetween}
+use Rattle.rs274.specs.Modal.{standsIn, valueIn, unitOf, lengthIn, positionOf, feedOf, modalAfter, inchesAfter, incrementalAfter, roundedOf, moveOf, chosenBy, feedBy, positionAfter, feedInForce, blockBetween}
 use Rattle.rs274.specs.declared.Modal.{Modal}
 
 -- A number that is a small one is read back as that.
@@ -197,23 +197,23 @@ pub within-after : (m : Modal) (w : Words) → WordsWithin w → Within (2 ^ 40)
 unfolding modalAfter
 within-after m w h n =
     record {
-      x = position-small (inchesAfter m w) (incrementalAfter m w) (m .x) (standsIn w xSlot) (numberIn w xSlot) (n .x) (h xSlot);
-      y = position-small (inchesAfter m w) (incrementalAfter m w) (m .y) (standsIn w ySlot) (numberIn w ySlot) (n .y) (h ySlot);
-      z = position-small (inchesAfter m w) (incrementalAfter m w) (m .z) (standsIn w zSlot) (numberIn w zSlot) (n .z) (h zSlot);
+      x = position-small (inchesAfter m w) (incrementalAfter m w) (m .x) (standsIn w xSlot) (valueIn w xSlot) (n .x) (h xSlot);
+      y = position-small (inchesAfter m w) (incrementalAfter m w) (m .y) (standsIn w ySlot) (valueIn w ySlot) (n .y) (h ySlot);
+      z = position-small (inchesAfter m w) (incrementalAfter m w) (m .z) (standsIn w zSlot) (valueIn w zSlot) (n .z) (h zSlot);
     }
 
 -- What the code has for each field is what is in force behind a line,
 module _ (m : Modal) (w : Words) (small : WordsWithin w) (near : Within (2 ^ 40) m) (inches incremental : Bool) (unit : inches ≡ inchesAfter m w) (way : incremental ≡ incrementalAfter m w) where
-  axis-after : (k : ℕ) (before r : ℤ) → natAbs before < 2 ^ 40 → r ≡ positionOf inches incremental (readBack before) (standsIn w k) (readBack (numberIn w k))
+  axis-after : (k : ℕ) (before r : ℤ) → natAbs before < 2 ^ 40 → r ≡ positionOf inches incremental (readBack before) (standsIn w k) (readBack (valueIn w k))
       → readBack r ≡ positionAfter m w k before
   axis-after k before r h e =
-      position-back inches incremental before (standsIn w k) (numberIn w k) r h (small k) e
-      ∙ (λ i. positionOf (unit i) (way i) before (standsIn w k) (numberIn w k))
+      position-back inches incremental before (standsIn w k) (valueIn w k) r h (small k) e
+      ∙ (λ i. positionOf (unit i) (way i) before (standsIn w k) (valueIn w k))
 
   pub modal-is : (rapid : Bool) (x y z : ℤ) (feed : ℕ) → rapid ≡ chosenBy w motionSlot (0 * parts) (m .rapid)
-      → x ≡ positionOf inches incremental (readBack (m .x)) (standsIn w xSlot) (readBack (numberIn w xSlot))
-      → y ≡ positionOf inches incremental (readBack (m .y)) (standsIn w ySlot) (readBack (numberIn w ySlot))
-      → z ≡ positionOf inches incremental (readBack (m .z)) (standsIn w zSlot) (readBack (numberIn w zSlot)) → feed ≡ feedBy w inches (m .feed)
+      → x ≡ positionOf inches incremental (readBack (m .x)) (standsIn w xSlot) (readBack (valueIn w xSlot))
+      → y ≡ positionOf inches incremental (readBack (m .y)) (standsIn w ySlot) (readBack (valueIn w ySlot))
+      → z ≡ positionOf inches incremental (readBack (m .z)) (standsIn w zSlot) (readBack (valueIn w zSlot)) → feed ≡ feedBy w inches (m .feed)
       → record { inches = inches; incremental = incremental; rapid = rapid; x = readBack x; y = readBack y; z = readBack z; feed = feed } ≡ modalAfter m w
   unfolding modalAfter
   modal-is rapid x y z feed motion ex ey ez fed =

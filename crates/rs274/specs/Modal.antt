@@ -19,12 +19,12 @@ begin = record { inches = false; incremental = false; rapid = false; x = pos 0; 
 abbrev pub standsIn : Words → (slot : ℕ) → Bool
 standsIn w k = getD (w .stands) k false
 
-abbrev pub numberIn : Words → (slot : ℕ) → ℤ
-numberIn w k = getD (w .values) k (pos 0)
+abbrev pub valueIn : Words → (slot : ℕ) → ℤ
+valueIn w k = getD (w .values) k (pos 0)
 
 -- whether the G word of a slot has this number, ten-thousandths; where none stands there, what was before
 abbrev pub chosenBy : Words → (slot v : ℕ) → (before : Bool) → Bool
-chosenBy w k v before = cond (standsIn w k) (isValue v (numberIn w k)) before
+chosenBy w k v before = cond (standsIn w k) (isValue v (valueIn w k)) before
 
 -- µm in an inch or in a millimetre
 abbrev pub unitOf : (inches : Bool) → ℕ
@@ -52,7 +52,7 @@ feedOf inches v = orZero v * unitOf inches / (60 * parts)
 
 -- the feed behind a line, µm/s
 abbrev pub feedBy : Words → (inches : Bool) (before : ℕ) → ℕ
-feedBy w inches before = cond (standsIn w feedSlot) (feedOf inches (numberIn w feedSlot)) before
+feedBy w inches before = cond (standsIn w feedSlot) (feedOf inches (valueIn w feedSlot)) before
 
 -- what is in force behind a line: its G words act before its other words
 module _ (m : Modal) (w : Words) where
@@ -63,7 +63,7 @@ module _ (m : Modal) (w : Words) where
   incrementalAfter = chosenBy w waySlot (91 * parts) (m .incremental)
 
   abbrev pub positionAfter : (slot : ℕ) → (before : ℤ) → ℤ
-  positionAfter k before = positionOf inchesAfter incrementalAfter before (standsIn w k) (numberIn w k)
+  positionAfter k before = positionOf inchesAfter incrementalAfter before (standsIn w k) (valueIn w k)
 
   unfoldable pub modalAfter : Modal
   modalAfter =

@@ -11,7 +11,7 @@ use Rattle.display.specs.Display.{given, refused}
 use Rattle.words.specs.Number.{numberIn}
 use Rattle.words.specs.Pieces.{Piece, word, stray, piecesOf}
 use Rattle.words.specs.Meaning.{Faulty, FirstFault, Kept, badlyFormed, notListed, outside, repeated, slotBy}
-use Rattle.words.specs.Words.{Scan, Words, filled, noWords, scan, slotOf, withLine, withNumber, withPieces, withSlot, withWord, wordsOf}
+use Rattle.words.specs.Words.{Scan, Words, filled, noWords, scan, slotOf, behindWords, withNumber, withPieces, withSlot, withWord, wordsOf}
 use Rattle.words.specs.declared.Number.{Number}
 use Rattle.words.specs.declared.Number.the-variants.{Of, Bad}
 use Rattle.words.specs.declared.Slot.{Slot}
@@ -92,7 +92,7 @@ search-on front (word c s ∷ rest) n right e = by-number (numberIn s) refl (λ 
 -- decides, 13 before 12 in one word.
 module _ (line : List ℕ) (n : ℕ) where
   pub words-fault : FirstFault (piecesOf line) n → wordsOf line .number ≡ n
-  unfolding withLine
+  unfolding behindWords
   words-fault f =
       ap (λ (pieces : List Piece). withPieces pieces noWords .number) (f .cut)
       ∙ ap (λ (s : Scan). s .number) (pieces-on (f .front) (f .right) (f .piece ∷ f .rest))
@@ -100,5 +100,5 @@ module _ (line : List ℕ) (n : ℕ) where
 
   -- Every other number than 0 comes of such a place.
   pub words-faulty : wordsOf line .number ≡ suc n → FirstFault (piecesOf line) (suc n)
-  unfolding withLine withPieces
+  unfolding behindWords withPieces
   words-faulty e = search-on [] (piecesOf line) n refl e

@@ -17,7 +17,7 @@ use Rattle.words.specs.Leading.{leading, behind}
 use Rattle.words.specs.Number.{afterSign, mostDecimals, mostDigits, mostNumber, numberIn, ofDecimals, parts, withDecimals}
 use Rattle.display.specs.Display.{Outcome, given, refused}
 use Rattle.words.specs.Pieces.{Piece, word, stray, digit, minus, plus, point, within, piecesOf}
-use Rattle.words.specs.Words.{Words, Scan, filled, noWords, scan, slotOf, slots, withLine, withNumber, withPieces, withSlot, withWord, wordsOf}
+use Rattle.words.specs.Words.{Words, Scan, filled, noWords, scan, slotOf, slots, behindWords, withNumber, withPieces, withSlot, withWord, wordsOf}
 use Rattle.words.specs.declared.Number.{Number}
 use Rattle.words.specs.declared.Number.the-variants.{Of, Bad}
 use Rattle.words.specs.declared.Slot.{Slot}
@@ -149,5 +149,5 @@ pieces-small (word letter numerals ∷ rest) w g = go (withWord letter numerals 
     go (refused n) h more = g
 
 pub words-small : (line : List ℕ) → SmallWords (wordsOf line .words)
-unfolding withLine
+unfolding behindWords
 words-small line = pieces-small (piecesOf line) noWords (zeros-small slots)

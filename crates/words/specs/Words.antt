@@ -108,11 +108,11 @@ withPieces (stray b ∷ rest) w = scan 12 w
 withPieces (word letter numerals ∷ rest) w = elim (withWord letter numerals w) [ given v ↦ withPieces rest v | refused n ↦ scan n w ]
 
 -- a line behind words that are right, and a line alone
-unfoldable pub withLine : List ℕ → Words → Scan
-withLine line w = withPieces (piecesOf line) w
+unfoldable pub behindWords : List ℕ → Words → Scan
+behindWords line w = withPieces (piecesOf line) w
 
 abbrev pub wordsOf : List ℕ → Scan
-wordsOf line = withLine line noWords
+wordsOf line = behindWords line noWords
 
 -- a slot that is one of a line's
 abbrev pub InLine : Slot → Type 0

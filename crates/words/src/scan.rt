@@ -3,7 +3,7 @@ ghost use mathlib.Core.Path.{_≡_};
 ghost use Prim.Native.Nat.{_<_};
 ghost use lib.ListN.{length};
 ghost use Rattle.words.specs.Steps.{Puts, Scanned, Sized, Stepped};
-ghost use Rattle.words.specs.Words.{InLine, axisSlot, isValue, slotOf, slotOfG, withLine, withSlot, withWord, wordsIn};
+ghost use Rattle.words.specs.Words.{InLine, axisSlot, isValue, slotOf, slotOfG, behindWords, withSlot, withWord, wordsIn};
 use crate::ABSOLUTE;
 use crate::FEED;
 use crate::INCHES;
@@ -135,7 +135,7 @@ fn step(stands: &mut [bool], values: &mut [i64], rest: &[u8]) -> Step
 // Reads a line behind the words that stand in lists of the right length.
 fn scan_line(line: &[u8], stands: &mut [bool], values: &mut [i64]) -> Checked
     requires { ⌜ Sized (now stands) (now values) ⌝ }
-    ensures { λ r. ⌜ Scanned (withLine (now (line .entry)) (wordsIn (now (stands .entry)) (now (values .entry)))) r (now (stands .exit)) (now (values .exit)) ⌝ }
+    ensures { λ r. ⌜ Scanned (behindWords (now (line .entry)) (wordsIn (now (stands .entry)) (now (values .entry)))) r (now (stands .exit)) (now (values .exit)) ⌝ }
 {
     let mut at: usize = 0;
     while at < line.len() {
@@ -150,7 +150,7 @@ fn scan_line(line: &[u8], stands: &mut [bool], values: &mut [i64]) -> Checked
 // Reads the words of a line, behind those that stand already: all of them, or those before its first fault from the
 // left, which is answered: 12 or 13.
 pub fn read_words(line: &[u8], stands: &mut [bool; SLOTS], values: &mut [i64; SLOTS]) -> Checked
-    ensures { λ r. ⌜ Scanned (withLine (now (line .entry)) (wordsIn (now (stands .entry)) (now (values .entry)))) r (now (stands .exit)) (now (values .exit)) ⌝ }
+    ensures { λ r. ⌜ Scanned (behindWords (now (line .entry)) (wordsIn (now (stands .entry)) (now (values .entry)))) r (now (stands .exit)) (now (values .exit)) ⌝ }
 {
     scan_line(line, stands, values)
 }

@@ -14,7 +14,7 @@ use Rattle.display.specs.declared.Checked.the-variants.{Passed, Refused}
 use borrow.Author.Needs.{needs}
 use Rattle.words.specs.Pieces.{piecesOf, piecesFrom}
 use Rattle.words.specs.Steps.{Scanned, Sized, Stepped}
-use Rattle.words.specs.Words.{Scan, Words, scan, withLine, withPieces, wordsIn}
+use Rattle.words.specs.Words.{Scan, Words, scan, behindWords, withPieces, wordsIn}
 use Rattle.words.specs.declared.Step.{Step}
 use Rattle.words.specs.declared.Step.the-variants.{Next}
 use Rattle.words.proofs.scan.scan_line.Statement.{statement}
@@ -32,13 +32,13 @@ scanned r e z = record { number = sym (ap (λ (s : Scan). s .number) e); words =
 
 abbrev Inv-loop : tie.InvT-loop
 Inv-loop line stands₀ values₀ at₀ stands values at =
-    (at ≤ length line) × (Sized stands values × (withPieces (piecesOf (drop at line)) (wordsIn stands values) ≡ withLine line (wordsIn stands₀ values₀)))
+    (at ≤ length line) × (Sized stands values × (withPieces (piecesOf (drop at line)) (wordsIn stands values) ≡ behindWords line (wordsIn stands₀ values₀)))
 
 abbrev μ-loop : tie.MeasureT-loop
 μ-loop line stands₀ values₀ at₀ stands values at = length line - at
 
 loop-holds : tie.Need-loop-holds Inv-loop μ-loop
-unfolding withLine
+unfolding behindWords
 loop-holds c = (omega arith, (c .before .before .pre, refl))
 
 -- a step from what is left
