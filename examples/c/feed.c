@@ -1,7 +1,8 @@
 /* Feeds a planner as a control does: holds a few blocks ahead, takes the first one when it needs
  * it, and hands its ramp to the servo loop, here one line of print. Then writes a tape of two
- * blocks, reads it back and plans it, and replays a trace of four calls with motors that have torque
- * steps of their own. Every function of the header is called.
+ * blocks, reads it back and plans it, replays a trace of four calls with motors that have torque
+ * steps of their own, and makes a tape of a program in RS-274 text. Every function of the header is
+ * called.
  *
  *     cc -std=c99 -Iinclude examples/c/feed.c target/staticlib/libfullerecru.a -o target/feed
  */
@@ -210,10 +211,36 @@ static void run_trace(void)
     printf("a torque step too few: refused by %" PRIu64 "\n", refused);
 }
 
+/* 1 mm along X and 1 mm along Y at 20 mm/s, then a quarter of an inch up; and a text whose third
+ * line has a space inside a word. */
+static const char TEXT[] = "N1 F1200 X1\nN2 Y1\nN3 G0 G20 Z0.25\n";
+static const char FAULTY[] = "F60\nX1\nY 2\n";
+
+/* Writes the records of a text behind the machine's limits, reads the tape back and plans it; then
+ * has a text refused. */
+static void run_text(void)
+{
+    uint8_t tape[FULLERECRU_MOST_TAPE];
+    uint8_t *records = tape + FULLERECRU_LIMITS_BYTES;
+    size_t room = sizeof tape - FULLERECRU_LIMITS_BYTES;
+    uint64_t blocks[1], place[1];
+    uint64_t refused = fullerecru_write_limits(MACHINE, tape, FULLERECRU_LIMITS_BYTES);
+    refused |= fullerecru_text((const uint8_t *)TEXT, strlen(TEXT), records, room, blocks, place);
+    if (refused != FULLERECRU_ACCEPTED) {
+        return;
+    }
+    size_t count = FULLERECRU_LIMITS_BYTES + FULLERECRU_RECORD_BYTES * (size_t)blocks[0];
+    print_tape(tape, count);
+    plan_tape(tape, count);
+    refused = fullerecru_text((const uint8_t *)FAULTY, strlen(FAULTY), records, room, blocks, place);
+    printf("text refused by %" PRIu64 " at %" PRIu64 "\n", refused, place[0]);
+}
+
 int main(void)
 {
     run_row();
     run_tape();
     run_trace();
+    run_text();
     return 0;
 }

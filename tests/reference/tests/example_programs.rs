@@ -5,6 +5,7 @@ use reference::generate::machine_m;
 use reference::line::{Line, LookAhead};
 use reference::machine::{Block, Given, Limits, Ramp};
 use reference::tape::{plan_tape, read_limits, read_record, LIMITS_BYTES, RECORD_BYTES};
+use reference::text::{text_blocks, text_tape};
 
 const FEED_TEXT: &str = include_str!("../../../examples/c/expected.txt");
 const PAIR_TEXT: &str = include_str!("../../../examples/rust/expected.txt");
@@ -89,16 +90,15 @@ fn row_text() -> String {
     text + &taken(&mut line)
 }
 
-/// The right-angle pair's tape, read back and planned, then spoiled.
-fn tape_text() -> String {
-    let mut tape = right_angle().pack();
+/// A tape of whole records as feed.c prints it: its limits, each block, its plan.
+fn printed_tape(tape: &[u8]) -> String {
     let Limits {
         accel,
         speed,
         jump,
         chord,
         tick,
-    } = read_limits(&tape).unwrap();
+    } = read_limits(tape).unwrap();
     let mut text = list(
         "limits",
         &[&accel[..], &speed, &[jump, chord, tick]].concat(),
@@ -109,13 +109,29 @@ fn tape_text() -> String {
         text += &format!("record move {x} {y} {z} feed {}", block.feed);
         text += &format!(" radius {} mark {}\n", block.radius, block.mark);
     }
-    let mut plan = [0; 3];
-    plan_tape(&tape, &[], &mut plan).unwrap();
-    text += &list("tape of 2 blocks, plan", &plan);
+    let blocks = (tape.len() - LIMITS_BYTES) / RECORD_BYTES;
+    let mut plan = vec![0; blocks + 1];
+    plan_tape(tape, &[], &mut plan).unwrap();
+    text + &list(&format!("tape of {blocks} blocks, plan"), &plan)
+}
+
+/// The right-angle pair's tape, read back and planned, then spoiled.
+fn tape_text() -> String {
+    let mut tape = right_angle().pack();
+    let text = printed_tape(&tape);
     tape[LIMITS_BYTES + RECORD_BYTES..].fill(0);
-    let fault = plan_tape(&tape, &[], &mut plan).unwrap_err();
+    let fault = plan_tape(&tape, &[], &mut [0; 3]).unwrap_err();
     let (number, place) = (fault.refusal.number(), fault.place);
     text + &format!("tape refused by {number} at {place}\n")
+}
+
+/// feed.c's text as a tape of the same machine, and its text that is refused.
+fn text_text() -> String {
+    let limits = &right_angle().pack()[..LIMITS_BYTES];
+    let tape = text_tape(limits, b"N1 F1200 X1\nN2 Y1\nN3 G0 G20 Z0.25\n").unwrap();
+    let fault = text_blocks(b"F60\nX1\nY 2\n").unwrap_err();
+    let (number, line) = (fault.refusal.number(), fault.place);
+    printed_tape(&tape) + &format!("text refused by {number} at {line}\n")
 }
 
 /// Feed, radius, mark, length, acceleration, entry, exit, peak and ramp.
@@ -162,7 +178,10 @@ fn pair_text() -> String {
 
 #[test]
 fn c_example_prints_these_numbers() {
-    assert_eq!(FEED_TEXT, row_text() + &tape_text() + &trace_text());
+    assert_eq!(
+        FEED_TEXT,
+        row_text() + &tape_text() + &trace_text() + &text_text()
+    );
 }
 
 #[test]
