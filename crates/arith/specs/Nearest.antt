@@ -1,6 +1,6 @@
 -- A quotient rounded to the nearest whole number.
 use mathlib.Core.Path.{_≡_}
-use Prim.Native.Nat.{ℕ, _+_, _-_, _*_, _≤_}
+use Prim.Native.Nat.{ℕ, _+_, _-_, _*_, _%_, _≤_}
 
 -- how far n is from q × d, above it or below it
 abbrev pub distance : (n d q : ℕ) → ℕ
@@ -19,3 +19,7 @@ NearestHalfDown = Nearest (λ q p. q ≤ p)
 -- an exact half goes up
 abbrev pub NearestHalfUp : (n d q : ℕ) → Type 0
 NearestHalfUp = Nearest (λ q p. p ≤ q)
+
+-- an exact half goes to the even one of the two
+abbrev pub NearestHalfEven : (n d q : ℕ) → Type 0
+NearestHalfEven = Nearest (λ q p. (p ≡ q → ⊥) → q % 2 ≡ 0)

@@ -25,6 +25,8 @@ refusal-above why.List = omega arith
 refusal-above why.Word = omega arith
 refusal-above why.Number = omega arith
 refusal-above why.Steps = omega arith
+refusal-above why.NotFinite = omega arith
+refusal-above why.Beyond = omega arith
 
 module _ {A : Type 0} (a b : A) where
   -- Nothing refused, and something refused.

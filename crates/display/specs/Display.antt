@@ -22,6 +22,8 @@ refusalNumber why.List = 11
 refusalNumber why.Word = 12
 refusalNumber why.Number = 13
 refusalNumber why.Steps = 14
+refusalNumber why.NotFinite = 15
+refusalNumber why.Beyond = 16
 
 -- a check's answer is a number; 0 says that it passed
 abbrev pub checkedMeans : Checked → ℕ

@@ -1,6 +1,6 @@
 // The numbers on the display: why a call is refused, and the number that says so.
 ghost use mathlib.Core.Path.{_≡_};
-ghost use Rattle.display.specs.Display.{checkedMeans, refusalNumber};
+ghost use Rattle.display.specs.Display.{checkedMeans, refusalNumber, _then_};
 
 // Why a call is refused, by the word on the display.
 pub enum Refusal {
@@ -18,6 +18,8 @@ pub enum Refusal {
     Word,
     Number,
     Steps,
+    NotFinite,
+    Beyond,
 }
 
 // The answer of a check.
@@ -45,6 +47,8 @@ pub fn refusal_number(why: Refusal) -> u64
         Refusal::Word => 12,
         Refusal::Number => 13,
         Refusal::Steps => 14,
+        Refusal::NotFinite => 15,
+        Refusal::Beyond => 16,
     }
 }
 
@@ -55,5 +59,15 @@ pub fn checked_number(c: Checked) -> u64
     match c {
         Checked::Passed => 0,
         Checked::Refused(why) => refusal_number(why),
+    }
+}
+
+// One check and then another: the first of them that refuses.
+pub fn first_refusal(a: Checked, b: Checked) -> Checked
+    ensures { λ r. ⌜ checkedMeans r ≡ (checkedMeans a then checkedMeans b) ⌝ }
+{
+    match a {
+        Checked::Passed => b,
+        Checked::Refused(why) => Checked::Refused(why),
     }
 }

@@ -1,0 +1,2 @@
+-- What a double is read as.
+pub mod Readings
