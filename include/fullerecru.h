@@ -7,10 +7,11 @@
  * fullerecru_text under 34 kB.
  *
  * Units: lengths in µm, speeds in µm/s, squared speeds in (µm/s)², accelerations in µm/s², the
- * tick in microseconds. Every quantity is a whole number.
+ * tick in microseconds. Every quantity is a whole number, but for the doubles of a host's orders, in
+ * mm and mm/s.
  *
- * Answers: every function but fullerecru_told returns 0 where the call is accepted, else the number
- * of its refusal (see below). Where several refusals hold, the one given is the first in the order
+ * Answers: every function but fullerecru_told, fullerecru_host_fresh and fullerecru_position returns 0
+ * where the call is accepted, else the number of its refusal (see below). Where several refusals hold, the one given is the first in the order
  * that stands at the function. A refused call changes nothing that was lent, but for the place that
  * tells where a tape or a text is at fault (fullerecru_plan_tape, fullerecru_text). Any numbers and
  * any bytes are answered: the ranges below are checked, not required.
@@ -23,7 +24,7 @@
  * tick. Between moves of a few µm a corner may have no cap, since lengths are rounded down.
  *
  * Lent memory: a pointer must not be null and must be aligned as its type asks (8 bytes for the
- * lists of numbers, 1 for bytes). Behind it must be as many items as the array's size or the
+ * lists of numbers and doubles, 1 for bytes). Behind it must be as many items as the array's size or the
  * count beside it says. The lists lent to one call must not overlap where one of them is written.
  *
  * Threads: there is no shared state. Calls may run at the same time if they are lent different
@@ -55,6 +56,9 @@ enum {
     FULLERECRU_GIVEN = 11,
     /* Numbers of a record read, beside its moves: feed, radius, mark. */
     FULLERECRU_RECORD = 3,
+    /* Numbers of 64 bits in a host's memory; doubles of a point. */
+    FULLERECRU_HOST = 4,
+    FULLERECRU_POINT = 3,
     /* Bytes of the limits and of each record on tape. */
     FULLERECRU_LIMITS_BYTES = 24,
     FULLERECRU_RECORD_BYTES = 16,
@@ -103,7 +107,11 @@ enum fullerecru_refusal {
     /* in a text, a word's number that is badly formed */
     FULLERECRU_REFUSED_NUMBER = 13,
     /* loaded torque steps not of eight bytes, out of range or rising */
-    FULLERECRU_REFUSED_STEPS = 14
+    FULLERECRU_REFUSED_STEPS = 14,
+    /* in an order, a double that is not finite, or a coordinate less its offset that is not */
+    FULLERECRU_REFUSED_NOT_FINITE = 15,
+    /* in an order, a rounded value beyond 1,000,000,000 either way, or below 0 for speed or radius */
+    FULLERECRU_REFUSED_BEYOND = 16
 };
 
 /* Torque steps, where a function takes a pointer steps and steps_count: the percent of the
@@ -244,6 +252,37 @@ uint64_t fullerecru_replay(const uint8_t *trace, size_t count, const uint8_t *st
  * Accepted, it also writes the records and blocks[0], the number of blocks. */
 uint64_t fullerecru_text(const uint8_t *text, size_t count, uint8_t *records, size_t size,
                          uint64_t blocks[1], uint64_t place[1]);
+
+/* A host gives orders in doubles, each of which becomes a block added to a planner. What it keeps is
+ * lent: four numbers, whose content is the host's; with the planner's memory it is lent to each
+ * order. Any numbers are answered as some host's. Makes a fresh host: its point is zero, and no order
+ * was accepted. */
+void fullerecru_host_fresh(uint64_t host[FULLERECRU_HOST]);
+
+/* The three sorts of order: rapid to a target, which has feed 1,000,000 µm/s; feed to a target with a
+ * speed in mm/s; curve chord to a target with a speed in mm/s and a radius in mm. target and offset,
+ * the work offset, are points X, Y, Z in mm. The offset is subtracted from each coordinate in one
+ * double operation. The result times 1,000 is rounded to the nearest whole number, an exact half to
+ * the even one, from the double's own bits: 0.0625 mm is 62 µm, 0.1875 mm is 188. Speed and radius go
+ * the same way without offset. The block goes from the last accepted order's rounded point, at first
+ * from zero, to this one's; its mark is the order's place from 1, refused orders not counted.
+ *
+ * Refuses field by field, X, Y, Z, speed, radius, in each by 15, then 16; then by 2, 3, 4, 5, 6, 7 as
+ * fullerecru_add does. Accepted, it writes memory and host. */
+uint64_t fullerecru_rapid(uint64_t memory[FULLERECRU_NUMBERS], uint64_t host[FULLERECRU_HOST],
+                          const double target[FULLERECRU_POINT],
+                          const double offset[FULLERECRU_POINT]);
+uint64_t fullerecru_feed(uint64_t memory[FULLERECRU_NUMBERS], uint64_t host[FULLERECRU_HOST],
+                         const double target[FULLERECRU_POINT],
+                         const double offset[FULLERECRU_POINT], double speed);
+uint64_t fullerecru_curve_chord(uint64_t memory[FULLERECRU_NUMBERS],
+                                uint64_t host[FULLERECRU_HOST],
+                                const double target[FULLERECRU_POINT],
+                                const double offset[FULLERECRU_POINT], double speed, double radius);
+
+/* Writes the last accepted order's rounded point, at first zero, as doubles in µm. Each is exactly
+ * that whole number, and none is -0.0. */
+void fullerecru_position(const uint64_t host[FULLERECRU_HOST], double point[FULLERECRU_POINT]);
 
 #ifdef __cplusplus
 }

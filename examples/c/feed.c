@@ -1,8 +1,8 @@
 /* Feeds a planner as a control does: holds a few blocks ahead, takes the first one when it needs
  * it, and hands its ramp to the servo loop, here one line of print. Then writes a tape of two
  * blocks, reads it back and plans it, replays a trace of four calls with motors that have torque
- * steps of their own, and makes a tape of a program in RS-274 text. Every function of the header is
- * called.
+ * steps of their own, makes a tape of a program in RS-274 text, and carries out the orders of a host
+ * in doubles. Every function of the header is called.
  *
  *     cc -std=c99 -Iinclude examples/c/feed.c target/staticlib/libfullerecru.a -o target/feed
  */
@@ -236,11 +236,44 @@ static void run_text(void)
     printf("text refused by %" PRIu64 " at %" PRIu64 "\n", refused, place[0]);
 }
 
+/* Prints what an order was answered, and where the host is then, µm. */
+static void print_order(const char *name, uint64_t refused, const uint64_t host[FULLERECRU_HOST])
+{
+    double point[FULLERECRU_POINT];
+    fullerecru_position(host, point);
+    printf("%s %" PRIu64 ", host at %.1f %.1f %.1f\n", name, refused, point[0], point[1], point[2]);
+}
+
+/* A rapid, a feed at 20 mm/s and a curve chord of radius 1.5 mm with a work offset; then a point that
+ * is too far, and the blocks that the planner holds. */
+static void run_orders(void)
+{
+    static const double OFFSET[FULLERECRU_POINT] = {0.3, 0.1, 0.3};
+    static const double START[FULLERECRU_POINT] = {0.1, 0.2, 0.3};
+    static const double CORNER[FULLERECRU_POINT] = {1.1, 0.2, 0.3};
+    static const double END[FULLERECRU_POINT] = {2.1, 0.6, 0.3};
+    static const double FAR[FULLERECRU_POINT] = {2.1, 2e6, 0.3};
+    uint64_t memory[FULLERECRU_NUMBERS], host[FULLERECRU_HOST];
+    if (fullerecru_fresh(memory, MACHINE, FULLERECRU_BUILT_IN) != FULLERECRU_ACCEPTED) {
+        return;
+    }
+    fullerecru_host_fresh(host);
+    print_order("rapid", fullerecru_rapid(memory, host, START, OFFSET), host);
+    print_order("feed", fullerecru_feed(memory, host, CORNER, OFFSET, 20.0), host);
+    print_order("curve chord", fullerecru_curve_chord(memory, host, END, OFFSET, 20.0, 1.5), host);
+    print_order("feed", fullerecru_feed(memory, host, FAR, OFFSET, 20.0), host);
+    print_plan(memory);
+    while (fullerecru_told(memory) != 0) {
+        take_and_print(memory);
+    }
+}
+
 int main(void)
 {
     run_row();
     run_tape();
     run_trace();
     run_text();
+    run_orders();
     return 0;
 }

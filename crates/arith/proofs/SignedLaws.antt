@@ -24,7 +24,7 @@ read-back f = toZ-ofZ f
 pub field-back : (z : ℤ) → mag z < 2 ^ 63 → readBack z ≡ z
 field-back z h = read-back (record { sfits = h })
 
-mag-le : (z : ℤ) → mag z ≤ natAbs z
+pub mag-le : (z : ℤ) → mag z ≤ natAbs z
 mag-le (pos n) = le-refl n
 mag-le (negsuc n) = omega arith
 

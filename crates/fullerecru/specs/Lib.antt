@@ -4,3 +4,4 @@ pub mod Planners
 pub mod Tapes
 pub mod Plans
 pub mod Texts
+pub mod Orders

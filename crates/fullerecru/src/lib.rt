@@ -4,6 +4,7 @@
 // is required but pointers to as many bytes or numbers as are named, and that what a call may write
 // is lent to it once only.
 mod numbers;
+pub mod orders;
 pub mod planners;
 pub mod plans;
 pub mod tapes;

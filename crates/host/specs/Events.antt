@@ -59,7 +59,7 @@ hostAfterAll h line (e ∷ events) = hostAfterAll (eventHost h line e) (eventLin
 unfoldable pub plannerAnswers : List Event → List Answer → List Answer
 plannerAnswers [] answers = []
 plannerAnswers (e ∷ events) [] = []
-plannerAnswers (e ∷ events) (a ∷ answers) = byNumber (eventFault e) (a ∷ plannerAnswers events answers) (plannerAnswers events answers)
+plannerAnswers (e ∷ events) (a ∷ answers) = byNumber (eventFault e) (a ∷ []) [] ++ plannerAnswers events answers
 
 -- the numbers of a planner and of a host
 pub record Held : Type 0 where
