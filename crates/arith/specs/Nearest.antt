@@ -20,6 +20,6 @@ NearestHalfDown = Nearest (λ q p. q ≤ p)
 abbrev pub NearestHalfUp : (n d q : ℕ) → Type 0
 NearestHalfUp = Nearest (λ q p. p ≤ q)
 
--- an exact half goes to the even one of the two
+-- an exact half goes to the even one of the two; by a d above 0 there is one such number only (the law `half-even-one`)
 abbrev pub NearestHalfEven : (n d q : ℕ) → Type 0
 NearestHalfEven = Nearest (λ q p. (p ≡ q → ⊥) → q % 2 ≡ 0)

@@ -40,13 +40,17 @@ unfoldable pub unitsOf : (exponent digits : ℕ) → ℕ
 unitsOf zero digits = digits
 unitsOf (suc x) digits = (2 ^ 52 + digits) * 2 ^ x
 
+-- 1,000 times that magnitude, to the nearest whole number, an exact half to the even one
+abbrev pub magnitudeOf : (exponent digits : ℕ) → ℕ
+magnitudeOf exponent digits = closest (unitsOf exponent digits * 1000) (2 ^ smallest)
+
 -- the same reading from a pattern of 64 bits: its sign, its exponent's field, 2047 for an infinity or a NaN, and its digits (the law
 -- `reading-bits`)
 unfoldable pub patternReading : (bits : ℕ) → Reading
 unfolding unitsOf
 patternReading bits =
     cond (eqb (bits % 2 ^ 63 / 2 ^ 52) 2047) NotFinite
-    (readingBy (leb (2 ^ 63) bits) (closest (unitsOf (bits % 2 ^ 63 / 2 ^ 52) (bits % 2 ^ 52) * 1000) (2 ^ smallest)))
+    (readingBy (leb (2 ^ 63) bits) (magnitudeOf (bits % 2 ^ 63 / 2 ^ 52) (bits % 2 ^ 52)))
 
 -- the parts of a double's pattern
 pub record FieldsOf (x : Float) (negative : Bool) (exponent digits : ℕ) : Type 0 where

@@ -1,12 +1,12 @@
 // One double of 64 bits, read exactly from its own bits, and given back. Nothing here knows what a double measures.
 ghost use mathlib.Core.Path.{_≡_};
 ghost use mathlib.Core.Bool.{not};
-ghost use Prim.Native.Nat.{_+_, _*_, _^_, _<_, _≤_, min};
+ghost use Prim.Native.Nat.{_+_, _^_, _<_, _≤_, min};
 ghost use lib.Dec.{T};
 ghost use lib.IntN.{natAbs};
 ghost use lib.Ieee.{binary64, isNan, ofBits, ofInt, sub, toBits};
 ghost use lib.Ieee.Nearest.{closest};
-ghost use Rattle.doubles.specs.Readings.{FieldsOf, mostRead, readingOf, smallest, unitsOf};
+ghost use Rattle.doubles.specs.Readings.{FieldsOf, magnitudeOf, mostRead, readingOf};
 use arith::signed::signed_by;
 
 // 1,000 times a double, to the nearest whole number, an exact half to the even one.
@@ -29,17 +29,20 @@ struct Fields {
 
 // The greatest whole number that is read, either way.
 pub const MOST: u64 = 1_000_000_000;
+// It stands for every magnitude beyond `MOST`.
+const PAST: u64 = MOST + 1;
 // What a double is multiplied by.
 const TIMES: u64 = 1_000;
-// Weights in a pattern: of the sign, and of the exponent's field, which is also the leading digit's.
+// The weight of the sign in a pattern.
 const SIGN: u64 = 0x8000_0000_0000_0000;
+// The weight of the exponent's field, which is also that of the leading digit.
 const LEADING: u64 = 0x10_0000_0000_0000;
 // The exponent's field of an infinity or a NaN.
 const ONES: u64 = 2047;
 // The smallest double above 0 is 2 to the power -1074.
 const SMALLEST: u64 = 1074;
-// From this exponent's field on a double is at least 2 to the power 21, and 1,000 times it beyond `MOST`.
-const FAR: u64 = 1044;
+// From this exponent's field on a double is at least 2 to the power 20, and 1,000 times it beyond `MOST`.
+const FAR: u64 = 1043;
 
 // The difference, rounded as doubles are.
 pub fn difference(a: f64, b: f64) -> f64
@@ -66,7 +69,7 @@ pub fn double_of(bits: u64) -> f64
     f64::from_bits(bits)
 }
 
-// A whole number of at most 53 bits as a double, with nothing lost.
+// A whole number up to 2^53 either way as a double, with nothing lost.
 pub fn whole(n: i64) -> f64
     requires { ⌜ natAbs n ≤ 2 ^ 53 ⌝ }
     ensures { λ r. ⌜ r ≡ ofInt binary64 n ⌝ }
@@ -104,12 +107,12 @@ fn nearest(n: u64, p: u64) -> u64
     let rest = n % p;
     let up = p - rest;
     if rest < up {
-        q
-    } else if up < rest {
-        q + 1
-    } else {
-        q + q % 2
+        return q;
     }
+    if up < rest {
+        return q + 1;
+    }
+    if q % 2 == 0 { q } else { q + 1 }
 }
 
 // n / 2^k to the nearest whole number, an exact half to the even one. From 2^64 on it is below a half.
@@ -123,19 +126,19 @@ fn nearest_shift(n: u64, k: u64) -> u64
     nearest(n, pow2(k))
 }
 
-// 1,000 times the magnitude of a finite double, to the nearest whole number; one more than `MOST` for all that is beyond it.
+// 1,000 times the magnitude of a finite double, to the nearest whole number; `PAST` where it is beyond `MOST`.
 fn magnitude(exponent: u64, digits: u64) -> u64
     requires { ⌜ (exponent < 2047) × (digits < 2 ^ 52) ⌝ }
-    ensures { λ r. ⌜ r ≡ min (mostRead + 1) (closest (unitsOf exponent digits * 1000) (2 ^ smallest)) ⌝ }
+    ensures { λ r. ⌜ r ≡ min (mostRead + 1) (magnitudeOf exponent digits) ⌝ }
 {
     if exponent == 0 {
         return nearest_shift(digits * TIMES, SMALLEST);
     }
     if FAR <= exponent {
-        return MOST + 1;
+        return PAST;
     }
     let n = nearest_shift((LEADING + digits) * TIMES, SMALLEST + 1 - exponent);
-    if MOST + 1 < n { MOST + 1 } else { n }
+    if PAST < n { PAST } else { n }
 }
 
 // 1,000 times a double, exactly from its bits.

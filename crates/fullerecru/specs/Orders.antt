@@ -2,7 +2,7 @@
 use mathlib.Core.List.{List, _∷_, []}
 use lib.Ieee.{Float, nan}
 use lib.ListN.{getD}
-use Rattle.host.specs.declared.Point.{Point}
+use Rattle.host.specs.declared.orders.Point.{Point}
 
 -- the point of three coordinates
 abbrev pub pointFrom : List Float → Point

@@ -5,11 +5,11 @@ ghost use lib.ListN.{length};
 ghost use Rattle.line.specs.Answers.{answerBy};
 ghost use Rattle.host.specs.Calls.{Ordered};
 ghost use Rattle.host.specs.State.{freshHost, hostNumbers, hostOf, positionOf};
-ghost use Rattle.host.specs.declared.Order.the-variants.{Rapid, Feed, CurveChord};
+ghost use Rattle.host.specs.declared.orders.Order.the-variants.{Rapid, Feed, CurveChord};
 ghost use Rattle.fullerecru.specs.Orders.{coordinatesOf, pointFrom};
 use crate::numbers::added_number;
-use host::Order;
-use host::Point;
+use host::orders::Order;
+use host::orders::Point;
 use host::order;
 
 // The point of three coordinates.

@@ -1,6 +1,6 @@
 -- Demand 3 with a host's orders in the list. From the promises of fresh, order, add, take, told and shown alone, and the planner's theorem.
 use mathlib.Core.List.{List, _∷_, _++_, []}
-use mathlib.Core.Path.{_≡_, refl, sym, ap, _∙_}
+use mathlib.Core.Path.{_≡_, refl, sym, ap, subst, _∙_}
 use Prim.Native.Nat.{ℕ, zero, suc, _<_}
 use native.Mathlib.Omega.{arith}
 use lib.ListN.{length}
@@ -20,12 +20,12 @@ use Rattle.host.specs.State.{Host, freshHost, hostOf, hostNumbers, hostB
 use Rattle.host.specs.Calls.{Ordered, hostAfter}
 use Rattle.host.specs.Events.{Held, EventDone, eventFault, callOf, callsOf, eventAnswer, eventLine, eventHost, callsOfAll, eventAnswers, hostAfterAll, plannerAnswers}
 use Rattle.host.specs.Demand.{EventsDone, OrdersDemand3}
-use Rattle.host.specs.declared.Event.{Event}
-use Rattle.host.specs.declared.Event.the-variants as event
-use Rattle.host.specs.declared.Order.{Order}
-use Rattle.host.specs.declared.Point.{Point}
+use Rattle.host.specs.declared.orders.Event.{Event}
+use Rattle.host.specs.declared.orders.Event.the-variants as event
+use Rattle.host.specs.declared.orders.Order.{Order}
+use Rattle.host.specs.declared.orders.Point.{Point}
 use Rattle.host.proofs.Fields.{fields-read}
-use Rattle.host.proofs.State.{host-back, fresh-back}
+use Rattle.host.proofs.Hosts.{host-back, fresh-back}
 
 -- A number above 0 refuses.
 refused-by : (n : ℕ) → 0 < n → answerBy n ≡ refused n
@@ -44,7 +44,7 @@ module _ {s s′ : Held} (h : Host) (line : Line) (kept : hostOf (s .host) ≡ h
   module _ {o : Order} {offset : Point} {said : Answer} (done : Ordered (s .memory) (s .host) o offset said (s′ .memory) (s′ .host)) where
     -- An order whose fields pass is the add of its block,
     order-call : orderFault o offset ≡ 0 → Called (s .memory) (add (orderBlock h o offset)) said (s′ .memory)
-    order-call e = rw kept at (done .block e)
+    order-call e = subst (λ (g : Host). Called (s .memory) (add (orderBlock g o offset)) said (s′ .memory)) kept (done .block e)
 
     -- which moves the host where it is accepted.
     moved : (n : ℕ) → addRefusal (length (line .blocks)) (orderBlock h o offset) ≡ n → said ≡ answerBy n
@@ -74,18 +74,20 @@ module _ {s s′ : Held} (h : Host) (line : Line) (kept : hostOf (s .host) ≡ h
         let field = done .field e in
         let fault = orderFault o offset in
         let same = done .unchanged fault (field .0) in
+        let all = fault then addRefusal (length (line .blocks)) (orderBlock h o offset) in
+        let above : 0 < all = rw (then-first (addRefusal (length (line .blocks)) (orderBlock h o offset)) e) e in
         record {
           answer = field .0 ∙ sym (refused-by fault e) ∙ sym (above-zero _ _ e);
           called = rw (above-zero (add (orderBlock h o offset) ∷ []) [] e, above-zero (said ∷ []) [] e, field .1) none;
-          host = ap hostOf (same .1) ∙ kept ∙ sym (above-zero (hostBehind h (readingsOf o offset)) h (rw (then-first (addRefusal (length (line .blocks)) (orderBlock h o offset)) e) e));
+          host = ap hostOf (same .1) ∙ kept ∙ sym (above-zero (hostBehind h (readingsOf o offset)) h {n = all} above);
           holds = rw (above-zero (add (orderBlock h o offset) ∷ []) [] e, field .1) holds;
         }
 
   stepped : (e : Event) {said : Answer} → EventDone s e said s′ → Stepped h line e said s s′
   unfolding lineAfterAll
-  stepped (event.Order o offset) done = go (orderFault o offset) refl
+  stepped (event.Order o offset) {said} done = go (orderFault o offset) refl
     where
-      go : (n : ℕ) → orderFault o offset ≡ n → Stepped h line (event.Order o offset) _ s s′
+      go : (n : ℕ) → orderFault o offset ≡ n → Stepped h line (event.Order o offset) said s s′
       go zero e = order-passed done e
       go (suc n) e = order-refused done (omega (arith, e))
   stepped (event.Call c) done =
@@ -110,7 +112,7 @@ run (next {c} one more) h line kept holds =
 -- DEMAND 3 with orders. From a fresh planner of any limits and loaded torque steps in any memory and a fresh host, for every list of orders, adds
 -- and takes, refused ones included, then told and shown: every one is answered as the host and the line of blocks say, demand 3 holds of the
 -- planner's calls among them, each order the add of its block, and the host's point is the last accepted order's.
-pub orders-demand3 : {m₀ m loaded lent left : List ℕ} {l : Limits} {refusal told : ℕ} {events : List Event} {answers : List Answer} {said : Answer} {s s′ : Held}
+pub orders-demand3 : {m₀ loaded lent left : List ℕ} {l : Limits} {refusal told : ℕ} {events : List Event} {answers : List Answer} {said : Answer} {s s′ : Held}
     → Freshened m₀ l loaded refusal (s .memory) → refusal ≡ 0 → s .host ≡ hostNumbers freshHost → EventsDone s events answers s′
     → Told (s′ .memory) told → Showed (s′ .memory) lent said left
     → OrdersDemand3 (machineOf l loaded) events answers told lent said left (s′ .host)

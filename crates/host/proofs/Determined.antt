@@ -7,8 +7,8 @@ use Rattle.line.specs.Answers.{Answer}
 use Rattle.planner.proofs.Determined.{called-one}
 use Rattle.host.specs.Fields.{readingsOf, orderFault}
 use Rattle.host.specs.Calls.{Ordered, hostAfter}
-use Rattle.host.specs.declared.Order.{Order}
-use Rattle.host.specs.declared.Point.{Point}
+use Rattle.host.specs.declared.orders.Order.{Order}
+use Rattle.host.specs.declared.orders.Point.{Point}
 
 pub ordered-one : {m h a b c d : List ℕ} {o : Order} {offset : Point} {s t : Answer} → Ordered m h o offset s a c → Ordered m h o offset t b d
     → (s ≡ t) × ((a ≡ b) × (c ≡ d))

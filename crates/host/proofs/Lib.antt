@@ -1,5 +1,6 @@
 -- The laws of what is read of an order, of the numbers that keep a host, of the promises' outcomes, and demand 3 with orders in the list.
 pub mod Fields
-pub mod State
+pub mod Hosts
+pub mod Outcomes
 pub mod Determined
 pub mod Demand

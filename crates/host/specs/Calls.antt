@@ -7,9 +7,9 @@ use Rattle.line.specs.Blocks.{add}
 use Rattle.planner.specs.Calls.{Called}
 use Rattle.host.specs.Fields.{readingsOf, orderFault}
 use Rattle.host.specs.State.{hostOf, hostNumbers, hostBehind, blockOf, orderBlock}
-use Rattle.host.specs.declared.Point.{Point}
-use Rattle.host.specs.declared.Order.{Order}
-use Rattle.host.specs.declared.Readings.{Readings}
+use Rattle.host.specs.declared.orders.Point.{Point}
+use Rattle.host.specs.declared.orders.Order.{Order}
+use Rattle.host.specs.declared.orders.Readings.{Readings}
 
 -- the host's numbers after an answer: behind the order where it was accepted, else as they were
 abbrev pub hostAfter : Answer → (host : List ℕ) → Readings → List ℕ

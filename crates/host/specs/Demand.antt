@@ -9,7 +9,7 @@ use Rattle.line.specs.Chains.{Chain}
 use Rattle.line.specs.Demand.{Demand3}
 use Rattle.host.specs.State.{freshHost, hostOf}
 use Rattle.host.specs.Events.{Held, EventDone, callsOfAll, eventAnswers, hostAfterAll, plannerAnswers}
-use Rattle.host.specs.declared.Event.{Event}
+use Rattle.host.specs.declared.orders.Event.{Event}
 
 -- Events one after the other, each on the numbers that the one before it left, with their answers.
 abbrev pub EventsDone : Held → List Event → List Answer → Held → Type 0

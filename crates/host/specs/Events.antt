@@ -12,8 +12,8 @@ use Rattle.planner.specs.Calls.{Called}
 use Rattle.host.specs.Fields.{readingsOf, orderFault}
 use Rattle.host.specs.State.{Host, hostBehind, orderBlock}
 use Rattle.host.specs.Calls.{Ordered}
-use Rattle.host.specs.declared.Event.{Event}
-use Rattle.host.specs.declared.Event.the-variants.{Order, Call}
+use Rattle.host.specs.declared.orders.Event.{Event}
+use Rattle.host.specs.declared.orders.Event.the-variants.{Order, Call}
 
 -- what is refused of an event before it reaches the planner: 15 or 16 of an order's fields, else 0
 abbrev pub eventFault : Event → ℕ

@@ -6,10 +6,10 @@ use Rattle.display.specs.Display.{_then_}
 use Rattle.doubles.specs.Readings.{mostRead, readingOf}
 use Rattle.doubles.specs.declared.Reading.{Reading}
 use Rattle.doubles.specs.declared.Reading.the-variants.{NotFinite, Beyond, At}
-use Rattle.host.specs.declared.Point.{Point}
-use Rattle.host.specs.declared.Order.{Order}
-use Rattle.host.specs.declared.Order.the-variants.{Rapid, Feed, CurveChord}
-use Rattle.host.specs.declared.Readings.{Readings}
+use Rattle.host.specs.declared.orders.Point.{Point}
+use Rattle.host.specs.declared.orders.Order.{Order}
+use Rattle.host.specs.declared.orders.Order.the-variants.{Rapid, Feed, CurveChord}
+use Rattle.host.specs.declared.orders.Readings.{Readings}
 
 -- the point that an order goes to, mm
 abbrev pub targetOf : Order → Point

@@ -9,9 +9,9 @@ use Rattle.fields.specs.Signed.{signedOf, bitsOf}
 use Rattle.machine.specs.Labels.{plainBlock}
 use Rattle.machine.specs.declared.Block.{Block}
 use Rattle.host.specs.Fields.{valueOf, readingsOf}
-use Rattle.host.specs.declared.Point.{Point}
-use Rattle.host.specs.declared.Order.{Order}
-use Rattle.host.specs.declared.Readings.{Readings}
+use Rattle.host.specs.declared.orders.Point.{Point}
+use Rattle.host.specs.declared.orders.Order.{Order}
+use Rattle.host.specs.declared.orders.Readings.{Readings}
 
 -- the point, µm, and the number of orders accepted
 pub record Host : Type 0 where

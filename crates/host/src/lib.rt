@@ -8,60 +8,30 @@ ghost use Rattle.host.specs.Calls.{Ordered};
 ghost use Rattle.host.specs.Events.{EventDone};
 ghost use Rattle.host.specs.State.{freshHost, hostNumbers, hostOf, positionOf};
 use display::Checked;
-use doubles::Reading;
 use line::AddAnswer;
 use line::Answer;
-use line::Call;
-use orders::check_fields;
-use orders::read_fields;
+use orders::Event;
+use orders::Order;
+use orders::Point;
+use reading::check_fields;
+use reading::read_fields;
 use state::add_read;
-use state::coordinate_of;
+use state::coordinate_double;
+use state::store_fresh;
 
-mod orders;
+pub mod orders;
+mod reading;
 mod state;
 
 // Numbers of a host's state: X, Y and Z of the point, µm, 32 bits by two's complement, and the number of orders accepted, of
 // which the 32 low bits count.
 pub const NUMBERS: usize = 4;
 
-// A point: a target or a work offset in mm, or the host's own point in µm.
-pub struct Point {
-    pub x: f64,
-    pub y: f64,
-    pub z: f64,
-}
-
-// What a host orders: rapid to a point; feed to a point with a speed in mm/s; curve chord to a point with a speed in mm/s and
-// a radius in mm. The point's coordinates are in mm.
-pub enum Order {
-    Rapid(Point),
-    Feed(Point, f64),
-    CurveChord(Point, f64, f64),
-}
-
-// An order's doubles times 1,000, each rounded: the point less the offset, µm, the speed, µm/s, and the radius, µm.
-pub struct Readings {
-    pub x: Reading,
-    pub y: Reading,
-    pub z: Reading,
-    pub speed: Reading,
-    pub radius: Reading,
-}
-
-// What comes to a planner with a host: an order with the work offset, or a call of the planner itself.
-pub enum Event {
-    Order(Order, Point),
-    Call(Call),
-}
-
 // Makes a fresh host: its point is zero, and no order was accepted.
 pub fn fresh(host: &mut [u64; NUMBERS])
     ensures { λ r. ⌜ now (host .exit) ≡ hostNumbers freshHost ⌝ }
 {
-    host[0] = 0;
-    host[1] = 0;
-    host[2] = 0;
-    host[3] = 0;
+    store_fresh(host);
 }
 
 // The host's point, the last accepted order's rounded one, µm.
@@ -69,9 +39,9 @@ pub fn position(host: &[u64; NUMBERS]) -> Point
     ensures { λ r. ⌜ r ≡ positionOf (hostOf (now (host .entry))) ⌝ }
 {
     Point {
-        x: doubles::whole(coordinate_of(host[0])),
-        y: doubles::whole(coordinate_of(host[1])),
-        z: doubles::whole(coordinate_of(host[2])),
+        x: coordinate_double(host[0]),
+        y: coordinate_double(host[1]),
+        z: coordinate_double(host[2]),
     }
 }
 

@@ -1,109 +1,33 @@
-// What an order's doubles are read as, and the first of them that is refused.
-ghost use mathlib.Core.Path.{_≡_};
-ghost use Rattle.display.specs.Display.{checkedMeans};
-ghost use Rattle.host.specs.Fields.{amountFault, coordinateFault, coordinateReading, fieldFault, radiusReading, readingsOf, speedReading, targetOf};
-use crate::Order;
-use crate::Point;
-use crate::Readings;
-use display::Checked;
-use display::Refusal;
-use display::first_refusal;
+// What a host hands over: points and orders in doubles, and what they are read as.
 use doubles::Reading;
-use doubles::difference;
-use doubles::read;
+use line::Call;
 
-// The speed of a rapid, µm/s.
-const RAPID: i64 = 1_000_000;
-
-// The point that an order goes to.
-fn target(o: Order) -> Point
-    ensures { λ r. ⌜ r ≡ targetOf o ⌝ }
-{
-    match o {
-        Order::Rapid(p) => p,
-        Order::Feed(p, _) => p,
-        Order::CurveChord(p, _, _) => p,
-    }
+// A point: a target or a work offset in mm, or the host's own point in µm.
+pub struct Point {
+    pub x: f64,
+    pub y: f64,
+    pub z: f64,
 }
 
-// A coordinate: the offset is subtracted in one double operation, and the difference is read.
-fn read_coordinate(at: f64, offset: f64) -> Reading
-    ensures { λ r. ⌜ r ≡ coordinateReading at offset ⌝ }
-{
-    read(difference(at, offset))
+// What a host orders: rapid to a point; feed to a point with a speed in mm/s; curve chord to a point with a speed in mm/s and
+// a radius in mm. The point's coordinates are in mm.
+pub enum Order {
+    Rapid(Point),
+    Feed(Point, f64),
+    CurveChord(Point, f64, f64),
 }
 
-// The speed of an order.
-fn read_speed(o: Order) -> Reading
-    ensures { λ r. ⌜ r ≡ speedReading o ⌝ }
-{
-    match o {
-        Order::Rapid(_) => Reading::At(RAPID),
-        Order::Feed(_, speed) => read(speed),
-        Order::CurveChord(_, speed, _) => read(speed),
-    }
+// An order's doubles times 1,000, each rounded: the point less the offset, µm, the speed, µm/s, and the radius, µm.
+pub struct Readings {
+    pub x: Reading,
+    pub y: Reading,
+    pub z: Reading,
+    pub speed: Reading,
+    pub radius: Reading,
 }
 
-// The radius of an order; 0 for no curve.
-fn read_radius(o: Order) -> Reading
-    ensures { λ r. ⌜ r ≡ radiusReading o ⌝ }
-{
-    match o {
-        Order::Rapid(_) => Reading::At(0),
-        Order::Feed(_, _) => Reading::At(0),
-        Order::CurveChord(_, _, radius) => read(radius),
-    }
-}
-
-// All fields of an order.
-pub(crate) fn read_fields(o: Order, offset: Point) -> Readings
-    ensures { λ r. ⌜ r ≡ readingsOf o offset ⌝ }
-{
-    let p = target(o);
-    Readings {
-        x: read_coordinate(p.x, offset.x),
-        y: read_coordinate(p.y, offset.y),
-        z: read_coordinate(p.z, offset.z),
-        speed: read_speed(o),
-        radius: read_radius(o),
-    }
-}
-
-// A coordinate: 15 or 16.
-fn check_coordinate(r: Reading) -> Checked
-    ensures { λ c. ⌜ checkedMeans c ≡ coordinateFault r ⌝ }
-{
-    match r {
-        Reading::NotFinite => Checked::Refused(Refusal::NotFinite),
-        Reading::Beyond => Checked::Refused(Refusal::Beyond),
-        Reading::At(_) => Checked::Passed,
-    }
-}
-
-// A speed or a radius: 15 or 16, and 16 below 0.
-fn check_amount(r: Reading) -> Checked
-    ensures { λ c. ⌜ checkedMeans c ≡ amountFault r ⌝ }
-{
-    match r {
-        Reading::NotFinite => Checked::Refused(Refusal::NotFinite),
-        Reading::Beyond => Checked::Refused(Refusal::Beyond),
-        Reading::At(n) => {
-            if n < 0 {
-                return Checked::Refused(Refusal::Beyond);
-            }
-            Checked::Passed
-        }
-    }
-}
-
-// All fields, in the order X, Y, Z, speed, radius.
-pub(crate) fn check_fields(r: Readings) -> Checked
-    ensures { λ c. ⌜ checkedMeans c ≡ fieldFault r ⌝ }
-{
-    let x = check_coordinate(r.x);
-    let y = check_coordinate(r.y);
-    let z = check_coordinate(r.z);
-    let speed = check_amount(r.speed);
-    let radius = check_amount(r.radius);
-    first_refusal(x, first_refusal(y, first_refusal(z, first_refusal(speed, radius))))
+// What comes to a planner with a host: an order with the work offset, or a call of the planner itself.
+pub enum Event {
+    Order(Order, Point),
+    Call(Call),
 }

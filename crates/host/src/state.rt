@@ -1,16 +1,22 @@
 // The host's four numbers: the block of an order from the host's point, and the point behind an order that was accepted.
 ghost use mathlib.Core.Path.{_≡_};
+ghost use Prim.Native.Nat.{_≤_};
+ghost use lib.Ieee.{binary64, ofInt};
+ghost use lib.IntN.{natAbs, _-ℤ_};
 ghost use lib.ListN.{length};
 ghost use Rattle.arith.specs.Signed.{orZero};
+ghost use Rattle.doubles.specs.Readings.{mostRead};
+ghost use Rattle.fields.specs.Signed.{bitsOf};
 ghost use Rattle.line.specs.Answers.{addMeans};
 ghost use Rattle.host.specs.Calls.{Added};
 ghost use Rattle.host.specs.Fields.{Read, valueOf};
-ghost use Rattle.host.specs.State.{blockOf, coordinateOf, hostBehind, hostNumbers, hostOf, hostSize, ordersOf};
+ghost use Rattle.host.specs.State.{blockOf, coordinateOf, freshHost, hostBehind, hostBits, hostNumbers, hostOf, hostSize, ordersOf};
 use crate::NUMBERS;
-use crate::Readings;
+use crate::orders::Readings;
 use arith::signed::magnitude;
 use arith::signed::minus;
 use doubles::Reading;
+use doubles::whole;
 use fields::to_bits;
 use fields::to_signed;
 use line::AddAnswer;
@@ -26,6 +32,13 @@ pub(crate) fn coordinate_of(number: u64) -> i64
     ensures { λ r. ⌜ r ≡ coordinateOf number ⌝ }
 {
     to_signed(number, BITS)
+}
+
+// The same as a double.
+pub(crate) fn coordinate_double(number: u64) -> f64
+    ensures { λ r. ⌜ r ≡ ofInt binary64 (coordinateOf number) ⌝ }
+{
+    whole(coordinate_of(number))
 }
 
 // How many orders were accepted.
@@ -54,22 +67,50 @@ fn amount(r: Reading) -> u64
     if n < 0 { 0 } else { magnitude(n) }
 }
 
+// The move on an axis, from the host's coordinate to the one that was read, µm.
+fn move_to(r: Reading, number: u64) -> i64
+    requires { ⌜ natAbs (valueOf r) ≤ mostRead ⌝ }
+    ensures { λ n. ⌜ n ≡ valueOf r -ℤ coordinateOf number ⌝ }
+{
+    minus(value(r), coordinate_of(number))
+}
+
+// The number that keeps a coordinate.
+fn number_for(r: Reading) -> u64
+    ensures { λ n. ⌜ n ≡ bitsOf hostBits (valueOf r) ⌝ }
+{
+    to_bits(value(r), BITS)
+}
+
 // The block of an order: from the host's point to the order's, with the order's place from 1 as its mark.
 fn block_of(host: &[u64], r: Readings) -> Block
     requires { ⌜ (length (now host) ≡ hostSize) × Read r ⌝ }
     ensures { λ b. ⌜ b ≡ blockOf (hostOf (now (host .entry))) r ⌝ }
 {
-    let x = minus(value(r.x), coordinate_of(host[0]));
-    let y = minus(value(r.y), coordinate_of(host[1]));
-    let z = minus(value(r.z), coordinate_of(host[2]));
+    let x = r.x;
+    let y = r.y;
+    let z = r.z;
+    let speed = r.speed;
+    let radius = r.radius;
     plain_block(
-        x,
-        y,
-        z,
-        amount(r.speed),
-        amount(r.radius),
+        move_to(x, host[0]),
+        move_to(y, host[1]),
+        move_to(z, host[2]),
+        amount(speed),
+        amount(radius),
         orders_of(host[3]) + 1,
     )
+}
+
+// Stores a fresh host.
+pub(crate) fn store_fresh(host: &mut [u64])
+    requires { ⌜ length (now host) ≡ hostSize ⌝ }
+    ensures { λ r. ⌜ now (host .exit) ≡ hostNumbers freshHost ⌝ }
+{
+    host[0] = 0;
+    host[1] = 0;
+    host[2] = 0;
+    host[3] = 0;
 }
 
 // Keeps an order that was accepted: its point, and one order more.
@@ -77,10 +118,13 @@ fn keep(host: &mut [u64], r: Readings)
     requires { ⌜ length (now host) ≡ hostSize ⌝ }
     ensures { λ e. ⌜ now (host .exit) ≡ hostNumbers (hostBehind (hostOf (now (host .entry))) r) ⌝ }
 {
+    let x = r.x;
+    let y = r.y;
+    let z = r.z;
     let orders = orders_of(host[3]) + 1;
-    host[0] = to_bits(value(r.x), BITS);
-    host[1] = to_bits(value(r.y), BITS);
-    host[2] = to_bits(value(r.z), BITS);
+    host[0] = number_for(x);
+    host[1] = number_for(y);
+    host[2] = number_for(z);
     host[3] = orders;
 }
 

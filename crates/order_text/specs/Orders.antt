@@ -8,11 +8,11 @@ use Rattle.fields.specs.Bytes.{numberOf}
 use Rattle.fields.specs.Fields.{fieldOf}
 use Rattle.fields.specs.Records.{recordIn}
 use Rattle.line.specs.declared.Call.the-variants.{Take}
-use Rattle.host.specs.declared.Point.{Point}
-use Rattle.host.specs.declared.Order.{Order}
-use Rattle.host.specs.declared.Order.the-variants.{Rapid, Feed, CurveChord}
-use Rattle.host.specs.declared.Event as host
-use Rattle.host.specs.declared.Event.the-variants as event
+use Rattle.host.specs.declared.orders.Point.{Point}
+use Rattle.host.specs.declared.orders.Order.{Order}
+use Rattle.host.specs.declared.orders.Order.the-variants.{Rapid, Feed, CurveChord}
+use Rattle.host.specs.declared.orders.Event as host
+use Rattle.host.specs.declared.orders.Event.the-variants as event
 
 -- doubles of an event, bytes of its kind, and bytes of all
 abbrev pub eventDoubles : ℕ

@@ -7,9 +7,9 @@ use crate::EVENT_BYTES;
 use doubles::double_of;
 use fields::read_field;
 use fields::read_word;
-use host::Event;
-use host::Order;
-use host::Point;
+use host::orders::Event;
+use host::orders::Order;
+use host::orders::Point;
 use line::Call;
 
 // Bits of the kind, and the bytes before the first double.

@@ -1,13 +1,14 @@
 -- The numbers that keep a host: whatever they are the point is within 32 bits, and a host behind an accepted order is read back from them. From
 -- the laws of two's complement.
-use mathlib.Core.Path.{_≡_, refl}
+use mathlib.Core.Path.{_≡_, refl, ap, _∙_}
 use Prim.Native.Nat.{ℕ, zero, suc, _+_, _^_, _≤_, _<_}
 use native.Mathlib.Nat.{mod-eq-of-lt}
 use native.Mathlib.Omega.{arith}
 use lib.Dec.{lit<}
-use lib.IntN.{ℤ, pos, negsuc, natAbs}
+use lib.Ieee.{binary64, ofInt}
+use lib.IntN.{ℤ, pos, negsuc, natAbs, _-ℤ_}
 use lib.Signed.{mag}
-use Rattle.arith.proofs.SignedLaws.{mag-le}
+use Rattle.arith.proofs.SignedLaws.{mag-le, natAbs-minus, readBack, small-back}
 use Rattle.fields.specs.Signed.{signedOf, bitsOf}
 use Rattle.fields.proofs.Signed.{signed-bits, signed-range}
 use Rattle.display.proofs.Answers.{then-zero}
@@ -17,7 +18,7 @@ use Rattle.machine.proofs.Bounds.{in-range}
 use Rattle.doubles.specs.Readings.{mostRead}
 use Rattle.host.specs.Fields.{Read, valueOf}
 use Rattle.host.specs.State.{Host, freshHost, hostBits, coordinateOf, hostOf, hostNumbers, hostBehind, blockOf}
-use Rattle.host.specs.declared.Readings.{Readings}
+use Rattle.host.specs.declared.orders.Readings.{Readings}
 
 -- A coordinate that is kept, whatever its number.
 pub coordinate-small : (n : ℕ) → natAbs (coordinateOf n) ≤ 2 ^ 31
@@ -27,6 +28,30 @@ coordinate-small n = go (signedOf hostBits n) (signed-range hostBits n (lit< tt)
     go (pos k) h = omega arith
     go (negsuc k) h = omega arith
 
+-- It is a double with nothing lost,
+module _ (n : ℕ) {k : ℤ} (kept : k ≡ coordinateOf n) where
+  kept-back : readBack k ≡ coordinateOf n
+  kept-back = ap readBack kept ∙ small-back (coordinateOf n) (omega (arith, coordinate-small n))
+
+  pub double-fits : natAbs (readBack k) ≤ 2 ^ 53
+  double-fits = rw kept-back (omega (arith, coordinate-small n))
+
+  pub double-is : ofInt binary64 (readBack k) ≡ ofInt binary64 (coordinateOf n)
+  double-is = ap (ofInt binary64) kept-back
+
+  -- and a move from it to a coordinate that was read fits.
+  module _ {v z : ℤ} (read : v ≡ z) (within : natAbs z ≤ mostRead) where
+    read-is : readBack v ≡ z
+    read-is = ap readBack read ∙ small-back z (omega (arith, within))
+
+    pub move-fits : natAbs (readBack v) + natAbs (readBack k) < 2 ^ 63
+    move-fits = rw (read-is, kept-back) (omega (arith, within, coordinate-small n))
+
+    pub move-is : {m : ℤ} → m ≡ readBack v -ℤ readBack k → readBack m ≡ z -ℤ coordinateOf n
+    move-is e =
+        ap readBack (e ∙ (λ i. read-is i -ℤ kept-back i))
+        ∙ small-back (z -ℤ coordinateOf n) (omega (arith, within, coordinate-small n, natAbs-minus z (coordinateOf n)))
+
 -- A coordinate that was read is kept as it is,
 coordinate-back : (z : ℤ) → natAbs z ≤ mostRead → coordinateOf (bitsOf hostBits z) ≡ z
 coordinate-back z h = signed-bits hostBits z (lit< tt) (omega (arith, mag-le z))
@@ -35,8 +60,14 @@ coordinate-back z h = signed-bits hostBits z (lit< tt) (omega (arith, mag-le z))
 pub host-back : (h : Host) (r : Readings) (held : ℕ) → Read r → addRefusal held (blockOf h r) ≡ 0 → hostOf (hostNumbers (hostBehind h r)) ≡ hostBehind h r
 host-back h r held within passed =
     let mark = in-range (blockOf h r) (then-zero (blockRefusal (blockOf h r)) passed .0) .mark-below in
-    let orders = mod-eq-of-lt {h .orders + 1} {2 ^ hostBits} (omega arith) in
-    λ i. record { x = coordinate-back _ (within .x) i; y = coordinate-back _ (within .y) i; z = coordinate-back _ (within .z) i; orders = orders i }
+    let orders = mod-eq-of-lt {n = h .orders + 1} {m = 2 ^ hostBits} (omega arith) in
+    λ i.
+    record {
+      x = coordinate-back (valueOf (r .x)) (within .x) i;
+      y = coordinate-back (valueOf (r .y)) (within .y) i;
+      z = coordinate-back (valueOf (r .z)) (within .z) i;
+      orders = orders i;
+    }
 
 -- A fresh host is read back.
 pub fresh-back : hostOf (hostNumbers freshHost) ≡ freshHost
