@@ -71,5 +71,5 @@ module _ (size : ℕ) where
   cut-behind sized records n bytes =
       let part : bytes % size ≡ (size * n + bytes) % size = sym (mul-add-mod-self-left size n bytes) in
       let place : records + n + bytes / size ≡ records + (size * n + bytes) / size =
-          add-assoc records n (bytes / size) ∙ ap (λ (i : ℕ). records + i) (sym (mul-add-div sized n bytes)) in
+      add-assoc records n (bytes / size) ∙ ap (λ (i : ℕ). records + i) (sym (mul-add-div sized n bytes)) in
       λ i. cond (eqb (part i) 0) 0 (place i + 1)
