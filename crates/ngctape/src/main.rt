@@ -4,7 +4,7 @@
 // error says so.
 use arguments::Order;
 use arguments::read_file_order;
-use outputs::say;
+use libc::STDOUT_FILENO;
 use outputs::say_error;
 use rs274::tapes::text_tape;
 use streams::Input;
@@ -23,7 +23,7 @@ const INPUT: usize = TEXT + 1;
 fn write_tape(limits: &[u8], text: &[u8]) {
     let mut tape = [0u8; MOST_BYTES];
     let end = text_tape(limits, text, &mut tape);
-    if !say(end, &tape) {
+    if !io::write_all(STDOUT_FILENO, &tape[..end]) {
         say_error(b"ngctape: standard output did not take the whole tape\n");
     }
 }

@@ -4,10 +4,10 @@
 use arguments::Order;
 use arguments::STEPS;
 use arguments::read_order;
+use libc::STDOUT_FILENO;
 use listing::Listing;
 use listing::PARTS;
 use listing::TEXT;
-use outputs::say;
 use outputs::say_error;
 use streams::Input;
 use streams::read_input;
@@ -29,7 +29,7 @@ fn list(tape: &[u8], steps: &[u8]) {
         if end == 0 {
             return;
         }
-        if !say(end, &text) {
+        if !io::write_all(STDOUT_FILENO, &text[..end]) {
             say_error(b"planlist: standard output did not take the whole listing\n");
             return;
         }
