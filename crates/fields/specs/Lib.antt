@@ -2,3 +2,4 @@ pub mod Layouts
 pub mod Bytes
 pub mod Fields
 pub mod Signed
+pub mod Records

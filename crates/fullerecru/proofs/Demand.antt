@@ -6,7 +6,7 @@ use Rattle.machine.specs.Torque.{machineOf}
 use Rattle.machine.specs.declared.Limits.{Limits}
 use Rattle.line.specs.Answers.{Answer, answerBy}
 use Rattle.line.specs.Blocks.{Call}
-use Rattle.planner.specs.Calls as planner
+use Rattle.line.specs.Chains as chain
 use Rattle.planner.specs.Calls.{CalledAll, Freshened, Told, Showed}
 use Rattle.planner.proofs.Demand.{demand3}
 use Rattle.fullerecru.specs.Planners as seen
@@ -19,15 +19,15 @@ record Behind (memory : List ℕ) (calls : List Call) (seen : List Seen) (memory
   pub seen-are : SeenAll answers seen
 
 behind : {m m′ : List ℕ} {calls : List Call} {seen : List Seen} → ExportedAll m calls seen m′ → Behind m calls seen m′
-behind none = record { answers = []; called = planner.none; seen-are = seen.none }
+behind none = record { answers = []; called = chain.none; seen-are = seen.none }
 behind (add-next {n} one more) =
     let b = behind more in
-    record { answers = answerBy n ∷ b .answers; called = planner.next one (b .called); seen-are = seen.next {s = seen.added n} refl (b .seen-are) }
+    record { answers = answerBy n ∷ b .answers; called = chain.next one (b .called); seen-are = seen.next {s = seen.added n} refl (b .seen-are) }
 behind (take-next {n} {moves} {moves′} {numbers} {numbers′} one more) =
     let b = behind more in
     record {
       answers = one .said ∷ b .answers;
-      called = planner.next (one .called) (b .called);
+      called = chain.next (one .called) (b .called);
       seen-are = seen.next {s = seen.taken n moves moves′ numbers numbers′} (one .number-is, one .moves-are, one .numbers-are) (b .seen-are);
     }
 

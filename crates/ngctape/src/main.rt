@@ -4,8 +4,8 @@
 // error says so.
 use arguments::Order;
 use arguments::read_file_order;
-use libc::STDERR_FILENO;
 use libc::STDOUT_FILENO;
+use outputs::say_error;
 use rs274::tapes::text_tape;
 use streams::Input;
 use streams::read_input;
@@ -18,11 +18,6 @@ use tape::limits::read_limits;
 const TEXT: usize = 393_216;
 
 const INPUT: usize = TEXT + 1;
-
-// Writes a line to standard error.
-fn say_error(line: &[u8]) {
-    io::write_all(STDERR_FILENO, line);
-}
 
 // Writes the tape of limits and a text, or the line of the refusal.
 fn write_tape(limits: &[u8], text: &[u8]) {

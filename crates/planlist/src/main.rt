@@ -4,11 +4,11 @@
 use arguments::Order;
 use arguments::STEPS;
 use arguments::read_order;
-use libc::STDERR_FILENO;
 use libc::STDOUT_FILENO;
 use listing::Listing;
 use listing::PARTS;
 use listing::TEXT;
+use outputs::say_error;
 use streams::Input;
 use streams::read_input;
 use tape::MOST_BYTES;
@@ -16,11 +16,6 @@ use tapeplan::sheet::SHEET;
 
 // One byte more than the longest tape: a longer input is refused by 10 whatever follows, so no more of it is read.
 const INPUT: usize = MOST_BYTES + 1;
-
-// Writes a line to standard error.
-fn say_error(line: &[u8]) {
-    io::write_all(STDERR_FILENO, line);
-}
 
 // Writes the listing of a tape with loaded steps part after part, as long as they are taken. It ends at a part without a
 // byte: behind that there is none.

@@ -9,9 +9,10 @@ use Rattle.machine.specs.declared.Limits.{Limits}
 use Rattle.line.specs.declared.Given.{Given}
 use Rattle.line.specs.Answers.{Answer, gave}
 use Rattle.line.specs.Blocks.{mostHeld, Call, Line, freshLine, lineAnswers, lineAfterAll}
+use Rattle.line.specs.Chains.{none, next}
 use Rattle.line.specs.Demand.{GivenFrom, answerAt, Demand3}
 use Rattle.line.proofs.Takes.{holds-given}
-use Rattle.planner.specs.Calls.{MemoryHolds, CalledAll, none, next, Freshened, Told, Showed}
+use Rattle.planner.specs.Calls.{MemoryHolds, CalledAll, Freshened, Told, Showed}
 
 -- A planner tells no more than are held at most, whatever its memory holds.
 pub told-few : {m : List ℕ} {told : ℕ} → Told m told → told ≤ mostHeld

@@ -1,5 +1,5 @@
 -- What the calls of a planner promise: the answer, and every number of the memory afterwards.
-use mathlib.Core.List.{List, _∷_, []}
+use mathlib.Core.List.{List}
 use mathlib.Core.Path.{_≡_}
 use Prim.Native.Nat.{ℕ, zero, suc, _<_}
 use lib.ListN.{length}
@@ -9,6 +9,7 @@ use Rattle.machine.specs.declared.Limits.{Limits}
 use Rattle.machine.specs.declared.Machine.{Machine}
 use Rattle.line.specs.Answers.{Answer, refused, answerBy}
 use Rattle.line.specs.Blocks.{Call, Line, freshLine, lineAnswer, lineAfter}
+use Rattle.line.specs.Chains.{Chain}
 use Rattle.line.specs.Demand.{ShownOf}
 use Rattle.line.specs.Holds.{Holds}
 use Rattle.line.specs.declared.Given.{Given}
@@ -50,10 +51,8 @@ pub record Called (entry : List ℕ) (call : Call) (said : Answer) (exit : List 
   pub line : ForLine entry (λ line. (said ≡ lineAnswer line call) × MemoryHolds exit (lineAfter line call))
 
 -- Adds and takes one after the other, each on the memory that the one before it left, with their answers.
-pub data CalledAll : (memory : List ℕ) (calls : List Call) (answers : List Answer) (memory′ : List ℕ) → Type 0 where
-  none : {m : List ℕ} → CalledAll m [] [] m
-  next : {m m′ m″ : List ℕ} {c : Call} {a : Answer} {calls : List Call} {answers : List Answer} → Called m c a m′ → CalledAll m′ calls answers m″
-      → CalledAll m (c ∷ calls) (a ∷ answers) m″
+abbrev pub CalledAll : (memory : List ℕ) (calls : List Call) (answers : List Answer) (memory′ : List ℕ) → Type 0
+CalledAll = Chain Called
 
 -- A fresh planner of a machine, or a refusal and no change.
 abbrev pub freshIn : (refusal : ℕ) → Ring → Machine → Ring

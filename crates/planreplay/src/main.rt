@@ -4,29 +4,29 @@
 // plan. A trace with no whole limits, or limits or steps that do not pass, gets the one line `refused`
 // with number and place 0. A trace that ends inside a call gets such a line in that call's place, with
 // its place counted from 1, and then the two closing lines.
-ghost use mathlib.Core.Path.{_≡_};
-ghost use Prim.Native.Nat.{_≤_, _<_};
+ghost use Prim.Native.Nat.{_≤_};
 ghost use lib.ListN.{length};
-ghost use Rattle.replay_text.specs.Texts.{cutPlace};
+ghost use Rattle.replay_text.specs.Texts.{recordedCalls};
 ghost use Rattle.replay_text.specs.Turns.{chunkBytes};
-ghost use Rattle.planreplay.specs.Places.{endCalls, turnBytes};
+ghost use Rattle.planreplay.specs.Places.{turnBytes};
 use arguments::Order;
 use arguments::STEPS;
 use arguments::read_order;
 use display::Checked;
 use display::Refusal;
 use display::refusal_number;
-use libc::STDERR_FILENO;
-use libc::STDOUT_FILENO;
 use machine::Limits;
+use outputs::say;
+use outputs::say_error;
+use outputs::say_refused;
 use planner::NUMBERS;
 use replay::CALL_BYTES;
 use replay_text::TEXT;
 use streams::Input;
+use streams::cut_at;
 use streams::read_input;
 use tape::LIMITS_BYTES;
 use tape::LimitsRead;
-use text::Put;
 
 // Bytes of a chunk: as many calls as are run at a time.
 const CHUNK: usize = CALL_BYTES * replay_text::CALLS;
@@ -53,21 +53,6 @@ enum Ended {
     Unread,
 }
 
-// Writes the first n bytes of a text. Returns whether all were taken.
-fn say(n: usize, text: &[u8]) -> bool
-    requires { ⌜ n ≤ length (now text) ⌝ }
-{
-    io::write_all(STDOUT_FILENO, &text[..n])
-}
-
-// Writes the line of a refusal with its place. Returns whether it was taken.
-fn say_refused(number: u64, place: u64, text: &mut [u8]) -> bool {
-    match text::put_refused_at(text, 0, number, place) {
-        Put::At(end) => say(end, text),
-        Put::NoRoom => say(0, text),
-    }
-}
-
 // Reads a chunk, runs its calls and writes their lines.
 fn run_next(chunk: &mut [u8], memory: &mut [u64; NUMBERS], text: &mut [u8; TEXT]) -> Turn
     ensures { λ r. ⌜ turnBytes r ≤ length (now (chunk .entry)) ⌝ }
@@ -86,21 +71,9 @@ fn run_next(chunk: &mut [u8], memory: &mut [u64; NUMBERS], text: &mut [u8; TEXT]
 
 // The same with a whole chunk.
 fn run_chunk(chunk: &mut [u8; CHUNK], memory: &mut [u64; NUMBERS], text: &mut [u8; TEXT]) -> Turn
-    ensures { λ r. ⌜ turnBytes r ≤ chunkBytes ⌝ }
+    ensures { λ r. ⌜ turnBytes r ≤ chunkBytes recordedCalls ⌝ }
 {
     run_next(chunk, memory, text)
-}
-
-// The place from 1 of the call that the bytes of a last chunk, behind `calls` calls, end inside; 0
-// where they end with a whole call.
-fn cut_at(calls: u64, bytes: usize) -> u64
-    requires { ⌜ (calls < endCalls) × (bytes ≤ chunkBytes) ⌝ }
-    ensures { λ r. ⌜ r ≡ cutPlace calls bytes ⌝ }
-{
-    if bytes % CALL_BYTES == 0 {
-        return 0;
-    }
-    calls + (bytes / CALL_BYTES) as u64 + 1
 }
 
 // Runs all calls of the input, as long as it can be read and their lines are taken.
@@ -113,7 +86,7 @@ fn run_calls(memory: &mut [u64; NUMBERS], text: &mut [u8; TEXT]) -> Ended {
             Turn::Unread => return Ended::Unread,
             Turn::Ran(got) => {
                 if got < CHUNK {
-                    return Ended::At(cut_at(calls, got));
+                    return Ended::At(cut_at(CALL_BYTES, calls, got));
                 }
             }
         }
@@ -124,18 +97,12 @@ fn run_calls(memory: &mut [u64; NUMBERS], text: &mut [u8; TEXT]) -> Ended {
 
 // Says that standard output did not take a text.
 fn say_unwritten() {
-    io::write_all(
-        STDERR_FILENO,
-        b"planreplay: standard output did not take all lines\n",
-    );
+    say_error(b"planreplay: standard output did not take all lines\n");
 }
 
 // Says that standard input was not read to its end.
 fn say_unread() {
-    io::write_all(
-        STDERR_FILENO,
-        b"planreplay: standard input could not be read to its end\n",
-    );
+    say_error(b"planreplay: standard input could not be read to its end\n");
 }
 
 // Writes the line of a call that the input ends inside, where there is one, and the closing lines.

@@ -8,6 +8,7 @@ use Rattle.machine.specs.Lists.{limitsFrom}
 use Rattle.fields.specs.Layouts.{joined, split}
 use Rattle.fields.specs.Bytes.{numberOf}
 use Rattle.fields.specs.Fields.{fieldOf}
+use Rattle.fields.specs.Records.{eachRecord}
 use Rattle.fields.specs.Signed.{signedOf, bitsOf}
 use Rattle.machine.specs.Checks.{limitsRefusal, limitsWithin}
 use Rattle.machine.specs.Torque.{stepsRefusal, falling}
@@ -15,7 +16,7 @@ use Rattle.line.specs.Answers.{refused}
 use Rattle.line.specs.Blocks as line
 use Rattle.tape.specs.Tape.{limitsAt, zeroBits}
 use Rattle.tape.specs.Answers.{limitsFault}
-use Rattle.replay.specs.Trace.{blockOf, callOf, callsFrom, traceCalls, traceRefusal}
+use Rattle.replay.specs.Trace.{blockOf, callOf, traceCalls, traceRefusal}
 use Rattle.replay.specs.Rows.{rowOf, eachOf, rowsOf}
 use Rattle.replay.specs.Replays.{replayRefusal}
 
@@ -31,7 +32,7 @@ taken : List ℕ
 taken = 0 ∷ 0 ∷ 0 ∷ 0 ∷ replicate 24 255
 
 calls-read : traceCalls (machine ++ added ++ taken) ≡ line.add record { x = pos 1000; y = negsuc 1; z = pos 0; feed = 20000; radius = 3; mark = 7 } ∷ line.take ∷ []
-unfolding machine added taken callsFrom callOf blockOf fieldOf signedOf numberOf joined
+unfolding machine added taken eachRecord callOf blockOf fieldOf signedOf numberOf joined
 calls-read = refl
 
 -- accepted with 30 and 65 numbers lent, 11 with others, 9 with a byte too many before 11, 9 with no limits, 1 with limits of 0

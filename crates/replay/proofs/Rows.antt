@@ -35,7 +35,7 @@ row-size (gave g) = refl
 row-size (refused n) = refl
 
 -- What is written for answers behind answers.
-pub each-both : (written : Answer → List ℕ) (first second : List Answer) → eachOf written (first ++ second) ≡ eachOf written first ++ eachOf written second
+pub each-both : {A : Type 0} (written : A → List ℕ) (first second : List A) → eachOf written (first ++ second) ≡ eachOf written first ++ eachOf written second
 unfolding eachOf
 each-both written [] second = refl
 each-both written (a ∷ first) second =

@@ -1,74 +1,67 @@
--- Runs of calls on a planner's memory, one call more, and demand 3 of all. From the laws of rows and the planner's theorem.
+-- Runs of calls, of one call more, and demand 3 of all calls of a planner. From the laws of chains, records and rows and the planner's theorem.
 use mathlib.Core.List.{List, _∷_, _++_, append-nil, []}
 use mathlib.Core.Path.{_≡_, refl, sym, ap, subst, _∙_}
-use Prim.Native.Nat.{ℕ, zero, suc, _+_, _*_, _≤_}
-use native.Mathlib.Nat.{add-zero, zero-add}
+use Prim.Native.Nat.{ℕ, _+_, _*_, _≤_}
+use native.Mathlib.Nat.{zero-add}
 use native.Mathlib.Numerals.{add-one}
 use native.Mathlib.Omega.{arith}
 use borrow.Author.Tests.{eq-eqb}
 use lib.ListN.{length, take, drop}
 use lib.Seq.{length-take-le, take-at, drop-at}
 use borrow.Rule.Slice.PartMut.{putMid}
+use Rattle.fields.specs.Records.{recordIn, eachRecord}
+use Rattle.fields.proofs.Records.{records-more}
 use Rattle.machine.specs.Torque.{machineOf}
 use Rattle.machine.specs.declared.Limits.{Limits}
 use Rattle.line.specs.Answers.{Answer, accepted, answerBy}
 use Rattle.line.specs.Blocks.{Call}
+use Rattle.line.specs.Chains.{none, next}
 use Rattle.line.specs.Ring.{toldOf, showRefusal}
-use Rattle.planner.specs.Calls.{Called, CalledAll, none, next, Freshened, Told, Showed}
+use Rattle.line.proofs.Chains.{chain-both}
+use Rattle.planner.specs.Calls.{Called, Freshened, Told, Showed}
 use Rattle.planner.specs.View.{viewOf}
 use Rattle.planner.proofs.Demand.{told-few, demand3}
-use Rattle.replay.specs.Trace.{callIn, callsFrom}
+use Rattle.replay.specs.Trace.{callBytes, callOf, callIn, callsFrom}
 use Rattle.replay.specs.Rows.{rowOf, eachOf, rowSize}
 use Rattle.replay.specs.Replays.{planSize, Demanded}
 use Rattle.replay.specs.Runs.{Ran, ToldPlan}
 use Rattle.replay.proofs.Rows.{row-size, each-both, stored-behind}
 
--- Calls behind calls.
-called-both : {m m′ m″ : List ℕ} {first second : List Call} {one two : List Answer} → CalledAll m first one m′ → CalledAll m′ second two m″
-    → CalledAll m (first ++ second) (one ++ two) m″
-called-both none q = q
-called-both (next c r) q = next c (called-both r q)
+module _ {S C A : Type 0} {Step : S → C → A → S → Type 0} {written : A → List ℕ} where
+  -- A run of calls behind calls,
+  pub ran-both : {first second : List C} {s s′ s″ : S} {one two : List ℕ} → Ran Step written first s s′ one → Ran Step written second s′ s″ two
+      → Ran Step written (first ++ second) s s″ (one ++ two)
+  ran-both r q =
+      record {
+        answers = r .answers ++ q .answers;
+        called = chain-both (r .called) (q .called);
+        all-is = (λ i. r .all-is i ++ q .all-is i) ∙ sym (each-both written (r .answers) (q .answers));
+      }
 
--- One call more of bytes.
-calls-more : (bytes : List ℕ) (j n : ℕ) → callsFrom bytes j (suc n) ≡ callsFrom bytes j n ++ callIn bytes (j + n) ∷ []
-unfolding callsFrom
-calls-more bytes j zero = rw (add-zero j)
-calls-more bytes j (suc n) =
-    let e : suc j + n ≡ j + suc n = omega arith in
-    ap (λ (l : List Call). callIn bytes j ∷ l) (calls-more bytes (suc j) n ∙ ap (λ (i : ℕ). callsFrom bytes (suc j) n ++ callIn bytes i ∷ []) e)
+  -- of one call,
+  ran-one : {c : C} {s s′ : S} (a : A) → Step s c a s′ → Ran Step written (c ∷ []) s s′ (written a)
+  unfolding eachOf
+  ran-one a one = record { answers = a ∷ []; called = next one none; all-is = sym (append-nil (written a)) }
 
--- A run of no calls,
-pub ran-none : (written : Answer → List ℕ) (bytes m : List ℕ) → Ran written (callsFrom bytes 0 0) m m []
-unfolding callsFrom eachOf
-ran-none written bytes m = record { answers = []; called = none; all-is = refl }
+  -- of no records of bytes, each of which says a call,
+  module _ (size : ℕ) (says : List ℕ → C) (bytes : List ℕ) where
+    pub ran-none : (s : S) → Ran Step written (eachRecord size says bytes 0 0) s s []
+    unfolding eachRecord eachOf
+    ran-none s = record { answers = []; called = none; all-is = refl }
 
--- of calls behind calls,
-pub ran-both : {written : Answer → List ℕ} {first second : List Call} {m m′ m″ one two : List ℕ} → Ran written first m m′ one → Ran written second m′ m″ two
-    → Ran written (first ++ second) m m″ (one ++ two)
-ran-both {written} r q =
-    record {
-      answers = r .answers ++ q .answers;
-      called = called-both (r .called) (q .called);
-      all-is = (λ i. r .all-is i ++ q .all-is i) ∙ sym (each-both written (r .answers) (q .answers));
-    }
-
--- of one call, and of one more of bytes.
-ran-one : {written : Answer → List ℕ} {c : Call} {m m′ : List ℕ} {a : Answer} → Called m c a m′ → Ran written (c ∷ []) m m′ (written a)
-unfolding eachOf
-ran-one {written} {a} one = record { answers = a ∷ []; called = next one none; all-is = sym (append-nil (written a)) }
-
-pub ran-more : {written : Answer → List ℕ} (bytes : List ℕ) (k : ℕ) {m m′ m″ all : List ℕ} {c : Call} {a : Answer} → Ran written (callsFrom bytes 0 k) m m′ all
-    → c ≡ callIn bytes k → Called m′ c a m″ → Ran written (callsFrom bytes 0 (k + 1)) m m″ (all ++ written a)
-ran-more bytes k {m′} {m″} {a} r e one =
-    rw (add-one k, calls-more bytes 0 k, zero-add k) (ran-both r (ran-one (subst (λ (c : Call). Called m′ c a m″) e one)))
+    -- and of one record more.
+    pub ran-more : (k : ℕ) {s s′ s″ : S} {all : List ℕ} {c : C} {a : A} → Ran Step written (eachRecord size says bytes 0 k) s s′ all
+        → c ≡ says (recordIn size bytes k) → Step s′ c a s″ → Ran Step written (eachRecord size says bytes 0 (k + 1)) s s″ (all ++ written a)
+    ran-more k {s′} {s″} {a} r e one =
+        rw (add-one k, records-more size says bytes 0 k, zero-add k) (ran-both r (ran-one a (subst (λ (c : C). Step s′ c a s″) e one)))
 
 -- The row of one call more, stored behind those before it.
 pub ran-stored : (bytes rows row : List ℕ) (k j : ℕ) {m m′ m″ : List ℕ} {c : Call} {a : Answer} → rowSize * k ≤ length rows
-    → Ran rowOf (callsFrom bytes 0 k) m m′ (take (rowSize * k) rows) → c ≡ callIn bytes k → Called m′ c a m″ → row ≡ rowOf a
-    → Ran rowOf (callsFrom bytes 0 (k + 1)) m m″ (take (rowSize * (k + 1)) (putMid (rowSize * k) j rows row))
+    → Ran Called rowOf (callsFrom bytes 0 k) m m′ (take (rowSize * k) rows) → c ≡ callIn bytes k → Called m′ c a m″ → row ≡ rowOf a
+    → Ran Called rowOf (callsFrom bytes 0 (k + 1)) m m″ (take (rowSize * (k + 1)) (putMid (rowSize * k) j rows row))
 ran-stored bytes rows row k j {a} h r e one row-is =
     let long : rowSize * k + length row ≡ rowSize * (k + 1) = omega (arith, ap length row-is, row-size a) in
-    rw (stored-behind rows row (rowSize * k) j (rowSize * (k + 1)) h long, row-is) (ran-more bytes k r e one)
+    rw (stored-behind rows row (rowSize * k) j (rowSize * (k + 1)) h long, row-is) (ran-more callBytes callOf bytes k r e one)
 
 -- A list of one number more than are told is filled.
 filled : {m lent left : List ℕ} {told : ℕ} {said : Answer} → Told m told → length lent ≡ told + 1 → Showed m lent said left → said ≡ accepted
@@ -92,7 +85,7 @@ told-plan {m} {told} plan shown t s p e =
 
 -- Demand 3 of calls that were run from a fresh planner, with what is told and shown behind them.
 pub demanded : {l : Limits} {loaded m₀ m m′ answers′ plan plan′ : List ℕ} {calls : List Call} {told : ℕ}
-    → Freshened m₀ l loaded 0 m → Ran rowOf calls m m′ answers′ → ToldPlan m′ told plan plan′ → Demanded (machineOf l loaded) calls told answers′ plan plan′
+    → Freshened m₀ l loaded 0 m → Ran Called rowOf calls m m′ answers′ → ToldPlan m′ told plan plan′ → Demanded (machineOf l loaded) calls told answers′ plan plan′
 demanded fresh ran t =
     record {
       answers = ran .answers;

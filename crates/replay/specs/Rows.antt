@@ -26,7 +26,7 @@ rowOf (gave g) = rowFrom 0 g
 rowOf (refused n) = rowFrom n noGiven
 
 -- what is written for each of a list of answers, one behind the other
-unfoldable pub eachOf : (Answer → List ℕ) → List Answer → List ℕ
+unfoldable pub eachOf : {A : Type 0} (written : A → List ℕ) → List A → List ℕ
 eachOf written [] = []
 eachOf written (a ∷ answers) = written a ++ eachOf written answers
 

@@ -1,17 +1,17 @@
--- What calls on a planner's memory promise: the planner's own answers and what is written for each, and what it tells and shows at the end.
+-- What calls that are run promise: their own answers and what is written for each; and of a planner what it tells and shows at the end.
 use mathlib.Core.Path.{_≡_}
 use mathlib.Core.List.{List}
 use Prim.Native.Nat.{ℕ, _+_}
 use lib.ListN.{take, drop}
-use Rattle.line.specs.Answers.{Answer, accepted}
-use Rattle.line.specs.Blocks.{Call}
-use Rattle.planner.specs.Calls.{CalledAll, Told, Showed}
+use Rattle.line.specs.Answers.{accepted}
+use Rattle.line.specs.Chains.{Chain}
+use Rattle.planner.specs.Calls.{Told, Showed}
 use Rattle.replay.specs.Rows.{eachOf}
 
--- a list of calls that were run, and all that was written for their answers
-pub record Ran (written : Answer → List ℕ) (calls : List Call) (memory memory′ all : List ℕ) : Type 0 where
-  pub answers : List Answer
-  pub called : CalledAll memory calls answers memory′
+-- a list of calls that were run on a state, one after the other, and all that was written for their answers
+pub record Ran {S C A : Type 0} (Step : S → C → A → S → Type 0) (written : A → List ℕ) (calls : List C) (state state′ : S) (all : List ℕ) : Type 0 where
+  pub answers : List A
+  pub called : Chain Step state calls answers state′
   pub all-is : all ≡ eachOf written answers
 
 -- the number told, and the plan shown in the first numbers of a lent list, as many as that and one; the others are as they were

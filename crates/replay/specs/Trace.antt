@@ -1,10 +1,11 @@
 -- A trace: the limits as on tape, then the calls, each seven 32-bit words, most significant byte first.
 use Prim.Native.Nat.{ℕ, zero, suc, _-_, _*_, _/_, _%_}
 use mathlib.Core.Bool.{not, cond, _||_}
-use mathlib.Core.List.{List, _∷_, []}
+use mathlib.Core.List.{List}
 use lib.Dec.{ltb, eqb}
-use lib.ListN.{length, take, drop}
+use lib.ListN.{length, drop}
 use Rattle.fields.specs.Fields.{fieldOf}
+use Rattle.fields.specs.Records.{recordIn, eachRecord, wholeRecords}
 use Rattle.fields.specs.Signed.{signedOf}
 use Rattle.display.specs.Display.{Outcome, given, refused, byNumber, _then_}
 use Rattle.tape.specs.Answers.{limitsFault}
@@ -49,15 +50,14 @@ callOf bytes = callBy (wordOf bytes 0) (blockOf bytes)
 
 -- call k of bytes with no limits before them, k counted from 0
 abbrev pub callIn : List ℕ → ℕ → line.Call
-callIn bytes k = callOf (take callBytes (drop (callBytes * k) bytes))
+callIn bytes k = callOf (recordIn callBytes bytes k)
 
 -- n calls of such bytes, from call k on, and all whole ones
-unfoldable pub callsFrom : List ℕ → (k n : ℕ) → List line.Call
-callsFrom bytes k zero = []
-callsFrom bytes k (suc n) = callIn bytes k ∷ callsFrom bytes (suc k) n
+abbrev pub callsFrom : List ℕ → (k n : ℕ) → List line.Call
+callsFrom = eachRecord callBytes callOf
 
 abbrev pub wholeCalls : List ℕ → List line.Call
-wholeCalls bytes = callsFrom bytes 0 (length bytes / callBytes)
+wholeCalls = wholeRecords callBytes callOf
 
 -- how many calls a trace has behind its limits, and which
 abbrev pub callsIn : List ℕ → ℕ

@@ -6,6 +6,7 @@
 ghost use mathlib.Core.Path.{_≡_};
 ghost use Prim.Native.Nat.{_*_, _/_};
 ghost use lib.ListN.{length};
+ghost use Rattle.planner.specs.Calls.{Called};
 ghost use Rattle.tape.specs.Answers.{limitsMeans};
 ghost use Rattle.replay.specs.Trace.{callBytes, readTrace, wholeCalls};
 ghost use Rattle.replay.specs.Rows.{rowOf, rowSize};
@@ -55,7 +56,7 @@ fn read_head(trace: &[u8]) -> LimitsRead
 // Runs the calls of bytes with no limits before them, each into its row.
 fn run(bytes: &[u8], memory: &mut [u64; NUMBERS], answers: &mut [u64])
     requires { ⌜ length (now answers) ≡ rowSize * (length (now bytes) / callBytes) ⌝ }
-    ensures { λ r. ⌜ Ran rowOf (wholeCalls (now (bytes .entry))) (now (memory .entry)) (now (memory .exit)) (now (answers .exit)) ⌝ }
+    ensures { λ r. ⌜ Ran Called rowOf (wholeCalls (now (bytes .entry))) (now (memory .entry)) (now (memory .exit)) (now (answers .exit)) ⌝ }
 {
     let n = bytes.len() / CALL_BYTES;
     let mut k: usize = 0;

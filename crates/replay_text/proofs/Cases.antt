@@ -8,6 +8,7 @@ use Rattle.machine.specs.Lists.{limitsFrom}
 use Rattle.fields.specs.Layouts.{joined, split}
 use Rattle.fields.specs.Bytes.{numberOf}
 use Rattle.fields.specs.Fields.{fieldOf}
+use Rattle.fields.specs.Records.{eachRecord}
 use Rattle.profile.specs.Passes.{startLimit, forward, planOf}
 use Rattle.machine.specs.Checks.{limitsRefusal, limitsWithin}
 use Rattle.machine.specs.Line.{spansOf}
@@ -18,7 +19,7 @@ use Rattle.machine.specs.Torque.{stepsRefusal}
 use Rattle.tape.specs.Tape.{limitsAt, zeroBits}
 use Rattle.tape.specs.Answers.{limitsReadRefusal, limitsFault}
 use Rattle.replay.specs.Rows.{eachOf}
-use Rattle.replay.specs.Trace.{callOf, callsFrom}
+use Rattle.replay.specs.Trace.{callOf}
 use Rattle.text.specs.Text.{digitsOf, decimal, spaced, line, row, refusedWords}
 use Rattle.listing.specs.Given.{givenText}
 use Rattle.replay_text.specs.Texts.{answerText, answersText, closingText, replayText}
@@ -65,5 +66,5 @@ bad-steps = refl
 -- a take, and one byte more: `refused 8`, `refused 9 at 2`, `held 0`, `plan 0`
 cut : replayText (machine ++ replicate 29 0) []
     ≡ 114 ∷ 101 ∷ 102 ∷ 117 ∷ 115 ∷ 101 ∷ 100 ∷ 32 ∷ 56 ∷ 10 ∷ 114 ∷ 101 ∷ 102 ∷ 117 ∷ 115 ∷ 101 ∷ 100 ∷ 32 ∷ 57 ∷ 32 ∷ 97 ∷ 116 ∷ 32 ∷ 50 ∷ 10 ∷ 104 ∷ 101 ∷ 108 ∷ 100 ∷ 32 ∷ 48 ∷ 10 ∷ 112 ∷ 108 ∷ 97 ∷ 110 ∷ 32 ∷ 48 ∷ 10 ∷ []
-unfolding machine replayText limitsReadRefusal stepsRefusal limitsFault zeroBits limitsAt limitsFrom limitsRefusal limitsWithin split numberOf joined callsFrom callOf fieldOf eachOf answerText lineAnswers lineAnswer lineAfterAll lineAfter spansOf planOf startLimit forward line spaced decimal digitsOf refusedWords
+unfolding machine replayText limitsReadRefusal stepsRefusal limitsFault zeroBits limitsAt limitsFrom limitsRefusal limitsWithin split numberOf joined eachRecord callOf fieldOf eachOf answerText lineAnswers lineAnswer lineAfterAll lineAfter spansOf planOf startLimit forward line spaced decimal digitsOf refusedWords
 cut = refl

@@ -1,5 +1,5 @@
 -- The text of calls that are run, and what storing it promises.
-pub mod Texts
 pub mod Chunks
+pub mod Texts
 pub mod Runs
 pub mod Turns

@@ -1,22 +1,21 @@
--- What storing the text of calls promises, whatever the memory holds: the planner's own answers, what it tells and shows, and every byte of the text.
--- The planner's promises (`Called`, `Told`, `Showed`) say the same by the line of blocks that the memory holds.
+-- What storing the text of calls promises, whatever the state: the calls' own answers, and every byte of the text; and of a planner's memory what it
+-- tells and shows. The planner's promises (`Called`, `Told`, `Showed`) say the same by the line of blocks that the memory holds.
 use mathlib.Core.Path.{_≡_}
 use mathlib.Core.List.{List}
 use Prim.Native.Nat.{ℕ, _+_, _≤_}
 use lib.ListN.{length}
 use Rattle.line.specs.Answers.{accepted}
-use Rattle.line.specs.Blocks.{Call}
 use Rattle.planner.specs.Calls.{Told, Showed}
 use Rattle.replay.specs.Runs.{Ran}
 use Rattle.text.specs.Store.{Stored}
-use Rattle.replay_text.specs.Texts.{answerText, closingText}
-use Rattle.replay_text.specs.Chunks.{textBytes}
+use Rattle.replay_text.specs.Texts.{closingText}
+use Rattle.replay_text.specs.Chunks.{Recorded, textBytes}
 
--- calls in turn, and the lines of the planner's own answers from the first byte on; `end` is how many bytes they take
-pub record RanText (calls : List Call) (memory memory′ text : List ℕ) (end : ℕ) (text′ : List ℕ) : Type 0 where
+-- calls in turn, and the lines of their own answers from the first byte on; `end` is how many bytes they take
+pub record RanText {S C A : Type 0} (r : Recorded S C A) (calls : List C) (state state′ : S) (text : List ℕ) (end : ℕ) (text′ : List ℕ) : Type 0 where
   pub few : end ≤ textBytes
   pub lines : List ℕ
-  pub ran : Ran answerText calls memory memory′ lines
+  pub ran : Ran (r .Step) (r .line) calls state state′ lines
   pub stored : Stored text 0 lines end text′
 
 -- the closing lines of a number told and a plan, from the first byte on

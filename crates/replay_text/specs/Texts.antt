@@ -1,20 +1,35 @@
--- The text of a trace that is run: a line for each answer, one for a cut call, and the two closing lines.
-use Prim.Native.Nat.{ℕ, _+_, _-_, _/_, _%_}
-use mathlib.Core.Bool.{cond}
+-- The text of records that are run: the one line of limits or steps that are refused, or a line for each answer, one for a cut record, and the
+-- closing lines; and the text of a trace.
+use Prim.Native.Nat.{ℕ, _-_}
 use mathlib.Core.List.{List, _++_, []}
-use lib.Dec.{eqb}
 use lib.ListN.{length}
+use Rattle.fields.specs.Records.{cutPlace}
 use Rattle.machine.specs.Torque.{machineOf, stepsRefusal}
 use Rattle.machine.specs.declared.Machine.{Machine}
 use Rattle.line.specs.Answers.{Answer, accepted, gave, refused}
 use Rattle.line.specs.Blocks.{Call, freshLine, lineAnswers, lineAfterAll, linePlan}
+use Rattle.planner.specs.Calls.{Called}
 use Rattle.text.specs.Text as text
 use Rattle.listing.specs.Given.{givenText}
 use Rattle.tape.specs.Tape.{limitsBytes, limitsAt}
 use Rattle.display.specs.Display.{byNumber, _then_}
 use Rattle.tape.specs.Answers.{limitsReadRefusal}
 use Rattle.replay.specs.Rows.{eachOf}
-use Rattle.replay.specs.Trace.{callBytes, traceCalls}
+use Rattle.replay.specs.Trace.{callBytes, callOf, traceCalls}
+use Rattle.replay_text.specs.Chunks.{Recorded}
+
+-- what is refused of any bytes as limits with records behind them and as loaded torque steps: no whole limits (9), limits that do not pass (1),
+-- then the steps (14)
+abbrev pub textRefusal : (s loaded : List ℕ) → ℕ
+textRefusal s loaded = limitsReadRefusal s then stepsRefusal loaded
+
+-- a text where neither is refused, else the refusal's line
+abbrev pub headedText : (s loaded body : List ℕ) → List ℕ
+headedText s loaded body = byNumber (textRefusal s loaded) body (text.refusedAt (textRefusal s loaded) 0)
+
+-- the line of a cut record with its place; no line where the place is 0
+abbrev pub cutText : (place : ℕ) → List ℕ
+cutText place = byNumber place [] (text.refusedAt 9 place)
 
 -- the line of an answer
 unfoldable pub answerText : Answer → List ℕ
@@ -30,13 +45,12 @@ answersText = eachOf answerText
 abbrev pub closingText : (told : ℕ) (plan : List ℕ) → List ℕ
 closingText told plan = text.held told ++ text.plan plan
 
--- the place from 1 of the call that bytes behind whole calls end inside; 0 where they end with a whole call
-abbrev pub cutPlace : (calls bytes : ℕ) → ℕ
-cutPlace calls bytes = cond (eqb (bytes % callBytes) 0) 0 (calls + bytes / callBytes + 1)
+-- the records of a trace: how many of a chunk are run at most, and what they are
+abbrev pub mostCalls : ℕ
+mostCalls = 300
 
--- the line of a cut call with its place; no line where the place is 0
-abbrev pub cutText : (place : ℕ) → List ℕ
-cutText place = byNumber place [] (text.refusedAt 9 place)
+abbrev pub recordedCalls : Recorded (List ℕ) Call Answer
+recordedCalls = record { size = callBytes; most = mostCalls; says = callOf; Step = Called; line = answerText }
 
 -- the text of calls from a fresh planner of machine m, behind which a call is cut at a place, or none
 abbrev pub callsText : Machine → List Call → (place : ℕ) → List ℕ
@@ -45,13 +59,6 @@ callsText m calls place =
     ++ cutText place
     ++ closingText (length (lineAfterAll (freshLine m) calls .blocks)) (linePlan (lineAfterAll (freshLine m) calls))
 
--- what is refused of any bytes as a trace and as loaded torque steps: no whole limits (9), limits that do not pass (1), then the steps (14)
-abbrev pub textRefusal : (s loaded : List ℕ) → ℕ
-textRefusal s loaded = limitsReadRefusal s then stepsRefusal loaded
-
 -- the text of the trace: of its whole calls, or the refusal's line
 unfoldable pub replayText : (s loaded : List ℕ) → List ℕ
-replayText s loaded =
-    byNumber (textRefusal s loaded)
-    (callsText (machineOf (limitsAt s) loaded) (traceCalls s) (cutPlace 0 (length s - limitsBytes)))
-    (text.refusedAt (textRefusal s loaded) 0)
+replayText s loaded = headedText s loaded (callsText (machineOf (limitsAt s) loaded) (traceCalls s) (cutPlace callBytes 0 (length s - limitsBytes)))

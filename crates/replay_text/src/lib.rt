@@ -7,7 +7,7 @@ ghost use Rattle.line.specs.Answers.{answerMeans};
 ghost use Rattle.listing.specs.Given.{WroteLine};
 ghost use Rattle.replay.specs.Replays.{planSize};
 ghost use Rattle.replay_text.specs.Chunks.{chunkCalls, chunkSize, lineBytes, textBytes};
-ghost use Rattle.replay_text.specs.Texts.{answerText};
+ghost use Rattle.replay_text.specs.Texts.{answerText, recordedCalls};
 ghost use Rattle.replay_text.specs.Runs.{Closed, Ended, RanText};
 use display::refusal_number;
 use line::Answer;
@@ -38,7 +38,7 @@ fn write_answer(a: Answer, text: &mut [u8], at: usize) -> usize
 
 // How many calls of a chunk are run.
 fn calls_of(bytes: &[u8]) -> usize
-    ensures { λ r. ⌜ r ≡ chunkSize (now (bytes .entry)) ⌝ }
+    ensures { λ r. ⌜ r ≡ chunkSize recordedCalls (now (bytes .entry)) ⌝ }
 {
     let whole = bytes.len() / CALL_BYTES;
     if whole < CALLS {
@@ -50,7 +50,7 @@ fn calls_of(bytes: &[u8]) -> usize
 // Runs the calls of a chunk in turn, each line behind the one before it.
 fn run(bytes: &[u8], memory: &mut [u64; NUMBERS], text: &mut [u8]) -> usize
     requires { ⌜ length (now text) ≡ textBytes ⌝ }
-    ensures { λ r. ⌜ RanText (chunkCalls (now (bytes .entry))) (now (memory .entry)) (now (memory .exit)) (now (text .entry)) r (now (text .exit)) ⌝ }
+    ensures { λ r. ⌜ RanText recordedCalls (chunkCalls recordedCalls (now (bytes .entry))) (now (memory .entry)) (now (memory .exit)) (now (text .entry)) r (now (text .exit)) ⌝ }
 {
     let n = calls_of(bytes);
     let mut end: usize = 0;
@@ -66,7 +66,7 @@ fn run(bytes: &[u8], memory: &mut [u64; NUMBERS], text: &mut [u8]) -> usize
 // Runs the calls of a chunk, and stores their lines from the first byte on. Returns how many bytes
 // they take. Calls beyond `CALLS`, and bytes behind the last whole call, play no part.
 pub fn run_chunk(bytes: &[u8], memory: &mut [u64; NUMBERS], text: &mut [u8; TEXT]) -> usize
-    ensures { λ r. ⌜ RanText (chunkCalls (now (bytes .entry))) (now (memory .entry)) (now (memory .exit)) (now (text .entry)) r (now (text .exit)) ⌝ }
+    ensures { λ r. ⌜ RanText recordedCalls (chunkCalls recordedCalls (now (bytes .entry))) (now (memory .entry)) (now (memory .exit)) (now (text .entry)) r (now (text .exit)) ⌝ }
 {
     run(bytes, memory, text)
 }

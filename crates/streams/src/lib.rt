@@ -1,6 +1,8 @@
 // What the programs read: standard input, and any file that is open.
 ghost use mathlib.Core.Path.{_≡_};
+ghost use Prim.Native.Nat.{_+_, _/_, _<_, _^_};
 ghost use lib.ListN.{length};
+ghost use Rattle.fields.specs.Records.{cutPlace};
 ghost use Rattle.streams.specs.Input.{nextOf, Within};
 use libc::STDIN_FILENO;
 
@@ -62,4 +64,16 @@ pub fn read_input(list: &mut [u8]) -> Input
     ensures { λ r. ⌜ Within (length (now (list .exit))) r ⌝ }
 {
     read_from(STDIN_FILENO, list)
+}
+
+// The place from 1 of the record of `size` bytes that the last bytes of an input, behind so many records,
+// end inside; 0 where they end with a whole one.
+pub fn cut_at(size: usize, records: u64, bytes: usize) -> u64
+    requires { ⌜ (0 < size) × (records + bytes / size + 1 < 2 ^ 64) ⌝ }
+    ensures { λ r. ⌜ r ≡ cutPlace size records bytes ⌝ }
+{
+    if bytes % size == 0 {
+        return 0;
+    }
+    records + (bytes / size) as u64 + 1
 }

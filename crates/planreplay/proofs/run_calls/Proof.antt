@@ -26,7 +26,7 @@ cut-at-requires : tie.Need-cut-at-requires Inv-loop μ-loop
 cut-at-requires c κs =
     let got = c .before .before in
     let run = got .before .before in
-    (run .before .before .before .before .loop-test .taken, omega (arith, ap turnBytes (got .got .given .1), run .run-chunk .ensures))
+    (omega arith, omega (arith, run .before .before .before .before .loop-test .taken, ap turnBytes (got .got .given .1), run .run-chunk .ensures))
 
 returns-3 : tie.Need-returns-3 Inv-loop μ-loop
 returns-3 c = tt

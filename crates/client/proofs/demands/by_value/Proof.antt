@@ -1,6 +1,6 @@
 -- `client::demands::by_value` meets its contract, in the same way.
 use borrow.Author.Needs.{needs}
-use Rattle.planner.specs.Calls.{none, next}
+use Rattle.line.specs.Chains.{none, next}
 use Rattle.planner.proofs.Demand.{demand3}
 use Rattle.client.proofs.demands.by_value.Statement.{statement}
 use Rattle.client.proofs.demands.by_value.Tie as tie

@@ -1,6 +1,6 @@
 -- `client::demands::in_memory` meets its contract: the promises of its calls, one after the other, and the planner's theorem.
 use borrow.Author.Needs.{needs}
-use Rattle.planner.specs.Calls.{none, next}
+use Rattle.line.specs.Chains.{none, next}
 use Rattle.planner.proofs.Demand.{demand3}
 use Rattle.client.proofs.demands.in_memory.Statement.{statement}
 use Rattle.client.proofs.demands.in_memory.Tie as tie

@@ -1,9 +1,9 @@
--- `planreplay::say` is safe: the part has n bytes.
+-- `outputs::say` is safe: the part has n bytes.
 use native.Mathlib.Omega.{arith}
 use lib.ListN.{length-take}
 use borrow.Author.Needs.{needs}
-use Rattle.planreplay.proofs.say.Statement.{statement}
-use Rattle.planreplay.proofs.say.Tie as tie
+use Rattle.outputs.proofs.say.Statement.{statement}
+use Rattle.outputs.proofs.say.Tie as tie
 
 slice-aggregate-write-all : tie.Need-slice-aggregate-write-all
 slice-aggregate-write-all c = simp length-take (omega arith)
