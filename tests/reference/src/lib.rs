@@ -5,12 +5,14 @@
 //! with. The numbers of a block are found by searching on the documents' own
 //! inequalities; `quick` holds the same numbers by division for the benchmark,
 //! and the tests compare the two. `circle` judges a chord cap by its geometry.
+//! The doubles of a host are read and subtracted by their bits, in `doubles`.
 //!
 //! Units: lengths in µm, speeds in µm/s, squared speeds in (µm/s)²,
 //! accelerations in µm/s², the tick in microseconds.
 
 pub mod bits;
 pub mod circle;
+pub mod doubles;
 pub mod examples;
 pub mod generate;
 pub mod incremental;
