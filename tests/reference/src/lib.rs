@@ -11,6 +11,7 @@
 //! accelerations in µm/s², the tick in microseconds.
 
 pub mod bits;
+pub mod cam_host;
 pub mod circle;
 pub mod doubles;
 pub mod examples;
