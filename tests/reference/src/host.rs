@@ -115,8 +115,8 @@ impl Wanted {
 /// difference of doubles that are not both finite is not finite either.
 fn whole(bits: u64) -> Result<i64, Refusal> {
     match reading(bits) {
-        Reading::NotFinite => Err(Refusal::Double),
-        Reading::Beyond => Err(Refusal::Range),
+        Reading::NotFinite => Err(Refusal::NotFinite),
+        Reading::Beyond => Err(Refusal::Beyond),
         Reading::At(whole) => Ok(whole),
     }
 }
@@ -124,5 +124,5 @@ fn whole(bits: u64) -> Result<i64, Refusal> {
 /// The whole number likewise of a speed or a radius, which 16 refuses also
 /// where it is below 0.
 fn not_below_zero(bits: u64) -> Result<u64, Refusal> {
-    u64::try_from(whole(bits)?).map_err(|_| Refusal::Range)
+    u64::try_from(whole(bits)?).map_err(|_| Refusal::Beyond)
 }

@@ -17,8 +17,8 @@ pub enum Refusal {
     Word = 12,
     Number = 13,
     Steps = 14,
-    Double = 15,
-    Range = 16,
+    NotFinite = 15,
+    Beyond = 16,
 }
 
 impl Refusal {
@@ -44,8 +44,8 @@ impl Refusal {
             Refusal::Word => "word",
             Refusal::Number => "number",
             Refusal::Steps => "steps",
-            Refusal::Double => "double",
-            Refusal::Range => "range",
+            Refusal::NotFinite => "not finite",
+            Refusal::Beyond => "beyond",
         }
     }
 

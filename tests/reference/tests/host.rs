@@ -284,8 +284,8 @@ fn marks_run_out() {
         host.order(&mut planner, &order, &[0; 3]).unwrap_err()
     };
     assert_eq!(refusal(Event::rapid([1.0, 0.0, 0.0])), Refusal::Still);
-    assert_eq!(refusal(Event::rapid([NAN, 0.0, 0.0])), Refusal::Double);
-    assert_eq!(refusal(Event::rapid([1e7, 0.0, 0.0])), Refusal::Range);
+    assert_eq!(refusal(Event::rapid([NAN, 0.0, 0.0])), Refusal::NotFinite);
+    assert_eq!(refusal(Event::rapid([1e7, 0.0, 0.0])), Refusal::Beyond);
     assert_eq!(refusal(Event::feed([0.0; 3], 0.0)), Refusal::Feed);
     assert_eq!(planner.told(), 0);
     assert_eq!((host.accepted(), host.point()), (2_097_151, [1_000, 0, 0]));
@@ -310,6 +310,6 @@ fn last_marks_of_a_line() {
 #[test]
 fn numbers_and_words() {
     let told = |refusal: Refusal| (refusal.number(), refusal.word());
-    assert_eq!(told(Refusal::Double), (15, "double"));
-    assert_eq!(told(Refusal::Range), (16, "range"));
+    assert_eq!(told(Refusal::NotFinite), (15, "not finite"));
+    assert_eq!(told(Refusal::Beyond), (16, "beyond"));
 }
