@@ -44,7 +44,10 @@ fn sorts_and_refusals() {
     let count = cam_host().len();
     assert!((30..=60).contains(&count), "{count}");
     let (ways, refusals) = sent();
-    assert_eq!(refusals, [Refusal::Still, Refusal::NotFinite, Refusal::Beyond]);
+    assert_eq!(
+        refusals,
+        [Refusal::Still, Refusal::NotFinite, Refusal::Beyond]
+    );
     let of_sort = |is: fn(&Order) -> bool| ways.iter().filter(|way| is(&way.order)).count();
     assert_eq!(of_sort(|order| matches!(order, Order::Rapid(_))), 4);
     assert_eq!(of_sort(|order| matches!(order, Order::Feed(..))), 6);
