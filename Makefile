@@ -35,8 +35,8 @@ picture:
 REFERENCE = CARGO_TARGET_DIR=target/reference cargo run --quiet --release --offline \
     --manifest-path tests/reference/Cargo.toml --bin
 
-# make expected: the cases of the programs machine_run and tape_run, and what these, planlist and
-# planreplay must write, made again by the independent implementation.
+# make expected: the cases of the programs machine_run and tape_run and the orders for planorders,
+# and what these, planlist and planreplay must write, made again by the independent implementation.
 expected:
 	$(REFERENCE) machine_expect -- cases > crates/machine_run/stdin
 	$(REFERENCE) machine_expect -- answers < crates/machine_run/stdin > crates/machine_run/stdout
@@ -44,17 +44,20 @@ expected:
 	$(REFERENCE) tape_expect -- answers < crates/tape_run/stdin > crates/tape_run/stdout
 	$(REFERENCE) planlist_ref < crates/planlist/stdin > crates/planlist/stdout
 	$(REFERENCE) planreplay_ref < crates/planreplay/stdin > crates/planreplay/stdout
+	$(REFERENCE) maketape -- order-cases > crates/planorders/stdin
+	$(REFERENCE) planorders_ref < crates/planorders/stdin > crates/planorders/stdout
 
-# make examples: the example tapes, traces, torque steps and texts, made again.
+# make examples: the example tapes, traces, torque steps, texts and orders, made again.
 TAPES = $(addprefix examples/tapes/,right-angle.tape mould-row.tape square-pocket.tape to-and-fro.tape)
 TRACES = examples/traces/shop-traffic.trace
 STEPS = examples/steps/soft-motors.steps
 TEXTS = examples/text/pocket-with-boss.ngc
+ORDERS = examples/orders/cam-host.orders
 
-examples: $(TAPES) $(TRACES) $(STEPS) $(TEXTS)
+examples: $(TAPES) $(TRACES) $(STEPS) $(TEXTS) $(ORDERS)
 
-.PHONY: $(TAPES) $(TRACES) $(STEPS) $(TEXTS)
-$(TAPES) $(TRACES) $(STEPS) $(TEXTS):
+.PHONY: $(TAPES) $(TRACES) $(STEPS) $(TEXTS) $(ORDERS)
+$(TAPES) $(TRACES) $(STEPS) $(TEXTS) $(ORDERS):
 	@mkdir -p $(@D)
 	$(REFERENCE) maketape -- $(basename $(@F)) > $@
 

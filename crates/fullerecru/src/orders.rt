@@ -8,9 +8,9 @@ ghost use Rattle.host.specs.State.{freshHost, hostNumbers, hostOf, positionOf};
 ghost use Rattle.host.specs.declared.orders.Order.the-variants.{Rapid, Feed, CurveChord};
 ghost use Rattle.fullerecru.specs.Orders.{coordinatesOf, pointFrom};
 use crate::numbers::added_number;
+use host::order;
 use host::orders::Order;
 use host::orders::Point;
-use host::order;
 
 // The point of three coordinates.
 fn point_from(list: &[f64]) -> Point

@@ -1,5 +1,5 @@
 -- Demand 3 with a host's orders in the list. From the promises of fresh, order, add, take, told and shown alone, and the planner's theorem.
-use mathlib.Core.List.{List, _∷_, _++_, []}
+use mathlib.Core.List.{List, _∷_, []}
 use mathlib.Core.Path.{_≡_, refl, sym, ap, subst, _∙_}
 use Prim.Native.Nat.{ℕ, zero, suc, _<_}
 use native.Mathlib.Omega.{arith}
@@ -8,9 +8,8 @@ use Rattle.display.specs.Display.{byNumber, _then_}
 use Rattle.display.proofs.Answers.{at-zero, above-zero, then-first, then-second}
 use Rattle.machine.specs.Torque.{machineOf}
 use Rattle.machine.specs.declared.Limits.{Limits}
-use Rattle.line.specs.Answers.{Answer, accepted, refused, answerBy}
-use Rattle.line.specs.Blocks as line
-use Rattle.line.specs.Blocks.{Line, freshLine, add, addRefusal, callMeans, lineAnswer, lineAfter, lineAfterAll}
+use Rattle.line.specs.Answers.{Answer, refused, answerBy}
+use Rattle.line.specs.Blocks.{Line, freshLine, add, addRefusal, lineAnswer, lineAfterAll}
 use Rattle.line.specs.Chains.{none, next}
 use Rattle.line.proofs.Chains.{chain-both}
 use Rattle.planner.specs.Calls.{Called, CalledAll, MemoryHolds, Freshened, Told, Showed}
@@ -18,7 +17,7 @@ use Rattle.planner.proofs.Demand.{demand3}
 use Rattle.host.specs.Fields.{readingsOf, orderFault}
 use Rattle.host.specs.State.{Host, freshHost, hostOf, hostNumbers, hostBehind, orderBlock}
 use Rattle.host.specs.Calls.{Ordered, hostAfter}
-use Rattle.host.specs.Events.{Held, EventDone, eventFault, callOf, callsOf, eventAnswer, eventLine, eventHost, callsOfAll, eventAnswers, hostAfterAll, plannerAnswers}
+use Rattle.host.specs.Events.{Held, EventDone, eventFault, callsOf, eventAnswer, eventLine, eventHost, callsOfAll, eventAnswers, hostAfterAll, plannerAnswers}
 use Rattle.host.specs.Demand.{EventsDone, OrdersDemand3}
 use Rattle.host.specs.declared.orders.Event.{Event}
 use Rattle.host.specs.declared.orders.Event.the-variants as event

@@ -47,7 +47,12 @@ pub fn position(host: &[u64; NUMBERS]) -> Point
 
 // Carries out an order with its work offset: the add of its block. Refuses by 15 or 16, field by field in the order X, Y, Z,
 // speed, radius, then by 2 to 7. A refusal changes nothing.
-pub fn order(memory: &mut [u64; planner::NUMBERS], host: &mut [u64; NUMBERS], o: Order, offset: Point) -> AddAnswer
+pub fn order(
+    memory: &mut [u64; planner::NUMBERS],
+    host: &mut [u64; NUMBERS],
+    o: Order,
+    offset: Point,
+) -> AddAnswer
     ensures { λ r. ⌜ Ordered (now (memory .entry)) (now (host .entry)) o offset (addMeans r) (now (memory .exit)) (now (host .exit)) ⌝ }
 {
     let fields = read_fields(o, offset);

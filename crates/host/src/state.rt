@@ -25,6 +25,7 @@ use machine::blocks::plain_block;
 
 // Bits of each number that count.
 const BITS: usize = 32;
+
 const COUNTED: u64 = 4_294_967_296;
 
 // A coordinate of the host's point, µm.
@@ -129,7 +130,11 @@ fn keep(host: &mut [u64], r: Readings)
 }
 
 // Adds the block of an order whose fields passed.
-pub(crate) fn add_read(memory: &mut [u64; planner::NUMBERS], host: &mut [u64; NUMBERS], r: Readings) -> AddAnswer
+pub(crate) fn add_read(
+    memory: &mut [u64; planner::NUMBERS],
+    host: &mut [u64; NUMBERS],
+    r: Readings,
+) -> AddAnswer
     requires { ⌜ Read r ⌝ }
     ensures { λ a. ⌜ Added (now (memory .entry)) (now (host .entry)) r (addMeans a) (now (memory .exit)) (now (host .exit)) ⌝ }
 {

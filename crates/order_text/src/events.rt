@@ -14,11 +14,15 @@ use line::Call;
 
 // Bits of the kind, and the bytes before the first double.
 const WORD: usize = 32;
+
 const KIND: usize = 4;
 // Places of the doubles: target, offset, speed, radius.
 const TARGET: usize = 0;
+
 const OFFSET: usize = 3;
+
 const SPEED: usize = 6;
+
 const RADIUS: usize = 7;
 
 // Double i of an event's bytes.

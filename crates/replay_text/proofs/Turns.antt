@@ -2,11 +2,12 @@
 -- of records and runs.
 use mathlib.Core.Path.{_≡_, sym, ap, subst, _∙_}
 use mathlib.Core.List.{List, _∷_, _++_, append-nil, []}
-use Prim.Native.Nat.{ℕ, _+_, _/_, _≤_, _<_, min}
+use Prim.Native.Nat.{ℕ, _+_, _-_, _/_, _≤_, _<_, min}
 use native.Mathlib.Nat.{zero-div, le-refl, min-eq-left, div-eq-of-eq-mul-right, div-le-of-le-mul}
-use lib.ListN.{length, length-append}
+use lib.ListN.{length, drop, length-append, length-drop}
 use Rattle.fields.specs.Records.{eachRecord, wholeRecords, cutPlace}
 use Rattle.fields.proofs.Records.{whole-both, cut-none, cut-behind}
+use Rattle.tape.specs.Tape.{limitsBytes}
 use Rattle.replay.specs.Runs.{Ran}
 use Rattle.replay.proofs.Runs.{ran-both, ran-none}
 use Rattle.text.proofs.Store.{take-front}
@@ -39,7 +40,7 @@ module _ {S C A : Type 0} (r : Recorded S C A) (sized : 0 < r .size) where
       rw (calls-behind bytes (chunksJoined (next ∷ chunks)) (c .0), take-front (t .stored)) (ran-both (t .ran) (turns-whole (c .1) rest))
 
   -- Counted chunk by chunk, the place of a cut record is that in the whole.
-  pub place-whole : (records : ℕ) (chunks : List (List ℕ)) → Chunked r chunks → placeIn r records chunks ≡ cutPlace (r .size) records (length (chunksJoined chunks))
+  place-whole : (records : ℕ) (chunks : List (List ℕ)) → Chunked r chunks → placeIn r records chunks ≡ cutPlace (r .size) records (length (chunksJoined chunks))
   unfolding chunksJoined
   place-whole records [] c = sym (cut-none (r .size) records)
   place-whole records (bytes ∷ []) c = ap (λ (l : List ℕ). cutPlace (r .size) records (length l)) (sym (append-nil bytes))
@@ -47,3 +48,9 @@ module _ {S C A : Type 0} (r : Recorded S C A) (sized : 0 < r .size) where
       let more : List ℕ = chunksJoined (next ∷ chunks) in
       let long : chunkBytes r + length more ≡ length (bytes ++ more) = ap (λ (n : ℕ). n + length more) (sym (c .0)) ∙ sym (length-append bytes more) in
       place-whole (records + r .most) (next ∷ chunks) (c .1) ∙ cut-behind (r .size) sized records (r .most) (length more) ∙ ap (cutPlace (r .size) records) long
+
+  -- That of an input whose chunks are the bytes behind its limits.
+  pub place-input : (s : List ℕ) (chunks : List (List ℕ)) → Chunked r chunks → chunksJoined chunks ≡ drop limitsBytes s
+      → placeIn r 0 chunks ≡ cutPlace (r .size) 0 (length s - limitsBytes)
+  place-input s chunks c j =
+      place-whole 0 chunks c ∙ ap (λ (b : List ℕ). cutPlace (r .size) 0 (length b)) j ∙ ap (cutPlace (r .size) 0) (length-drop limitsBytes s)

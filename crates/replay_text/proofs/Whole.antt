@@ -4,7 +4,7 @@ use mathlib.Core.Path.{_≡_, ap, _∙_}
 use mathlib.Core.List.{List, _++_}
 use Prim.Native.Nat.{ℕ, _-_, _<_}
 use native.Mathlib.Omega.{arith}
-use lib.ListN.{length, take, drop, length-drop}
+use lib.ListN.{length, take, drop}
 use Rattle.fields.specs.Records.{cutPlace}
 use Rattle.machine.specs.Torque.{machineOf}
 use Rattle.machine.specs.declared.Limits.{Limits}
@@ -21,7 +21,7 @@ use Rattle.replay_text.specs.Runs.{Closed}
 use Rattle.replay_text.specs.Turns.{chunksJoined, Chunked, placeIn, Turns}
 use Rattle.replay_text.proofs.Heads.{limits-refused, steps-refused, head-passed}
 use Rattle.replay_text.proofs.Runs.{closed-line}
-use Rattle.replay_text.proofs.Turns.{turns-whole, place-whole}
+use Rattle.replay_text.proofs.Turns.{turns-whole, place-input}
 
 module _ (s loaded : List ℕ) where
   -- the place of a trace's cut call, and the text of its calls
@@ -50,8 +50,7 @@ module _ (s loaded : List ℕ) where
       let head = head-passed s loaded body e f passed in
       let ran = turns-whole recordedCalls (omega arith) c r in
       let run = called-line (ran .called) (freshLine (machineOf l loaded)) (f .line passed) in
-      let cut : placeIn recordedCalls 0 chunks ≡ place =
-      place-whole recordedCalls (omega arith) 0 chunks c ∙ ap (λ (b : List ℕ). cutPlace callBytes 0 (length b)) j ∙ ap (cutPlace callBytes 0) (length-drop limitsBytes s) in
+      let cut : placeIn recordedCalls 0 chunks ≡ place = place-input recordedCalls (omega arith) s chunks c j in
       (λ i. (ran .all-is ∙ ap answersText (run .0)) i ++ cutText (cut i) ++ closed-line closing _ (run .1) i)
       ∙ (λ i. callsText (machineOf (head .1 i) loaded) (wholeCalls (j i)) place)
       ∙ head .0

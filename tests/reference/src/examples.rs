@@ -1,7 +1,9 @@
-//! Example tapes, traces, torque steps and texts.
+//! Example tapes, traces, torque steps, texts and orders.
 
+use crate::cam_host::cam_host;
 use crate::generate::machine_m;
 use crate::machine::{Block, Limits};
+use crate::orders::pack_orders;
 use crate::pocket::pocket_with_boss;
 use crate::rng::Rng;
 use crate::tape::Tape;
@@ -50,6 +52,17 @@ pub const TEXT_NAMES: [&str; 1] = ["pocket-with-boss"];
 pub fn example_text(name: &str) -> Option<String> {
     match name {
         "pocket-with-boss" => Some(pocket_with_boss()),
+        _ => None,
+    }
+}
+
+/// Names of the example orders.
+pub const ORDER_NAMES: [&str; 1] = ["cam-host"];
+
+/// The bytes of the example orders of a name.
+pub fn example_orders(name: &str) -> Option<Vec<u8>> {
+    match name {
+        "cam-host" => Some(pack_orders(&machine_m(), &cam_host())),
         _ => None,
     }
 }

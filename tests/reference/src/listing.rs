@@ -1,12 +1,14 @@
-//! The texts that `planlist` and `planreplay` write.
+//! The texts that `planlist` and `planreplay` write, and the lines that other
+//! programs write as these do.
 
 use std::io::{self, Read, Write};
 
 use crate::line::{Line, LookAhead};
 use crate::machine::{given, Block, Given, Machine};
 use crate::plan::from_rest;
+use crate::records::{run_records, Records};
 use crate::refusal::{Fault, Refusal};
-use crate::tape::{read_limits, read_to_plan, LIMITS_BYTES};
+use crate::tape::read_to_plan;
 use crate::trace::{read_call, Call, CALL_BYTES};
 
 /// First line of a listing, without its line feed.
@@ -60,59 +62,57 @@ pub fn planreplay(trace: &[u8], steps: &[u8]) -> String {
 
 /// Text of `planreplay` for a whole trace under loaded steps, by any planner.
 pub fn planreplay_by<P: LookAhead>(trace: &[u8], steps: &[u8]) -> String {
-    let mut text = Vec::new();
-    replay::<P>(&mut { trace }, steps, &mut text).expect("a list of bytes takes every write");
-    String::from_utf8(text).expect("digits, letters and spaces")
+    text_of(|text| replay::<P>(&mut { trace }, steps, text))
 }
 
-/// Reads a trace of any length and writes a line for each call, then the
-/// number held and the plan. Refused limits, by 9 or 1, or then refused steps,
-/// by 14, have the refusal line alone. Memory does not grow with the trace.
+/// Reads a trace of any length and writes a line for each call, then the number
+/// held and the plan, or the refusal line alone.
 pub fn replay<P: LookAhead>(
     input: &mut impl Read,
     steps: &[u8],
     output: &mut impl Write,
 ) -> io::Result<()> {
-    let mut head = [0; LIMITS_BYTES];
-    let got = read_most(input, &mut head)?;
-    match read_limits(&head[..got]).and_then(|limits| P::fresh(&limits, steps)) {
-        Err(refusal) => write!(output, "{}", fault_line(&refusal.at_no_record())),
-        Ok(mut planner) => {
-            replay_calls(&mut planner, input, output)?;
-            write!(output, "{}", closing_lines(&planner))
-        }
-    }
+    run_records::<P>(Calls, input, steps, output)
 }
 
-/// Runs each call of the input and writes its line. A call that is cut short
-/// is refused by 9 with its place from 1.
-fn replay_calls<P: LookAhead>(
-    planner: &mut P,
-    input: &mut impl Read,
-    output: &mut impl Write,
-) -> io::Result<()> {
-    for place in 1.. {
-        let mut bytes = [0; CALL_BYTES];
-        let got = read_most(input, &mut bytes)?;
-        if got == 0 {
-            break;
-        }
-        if got < CALL_BYTES {
-            let refusal = Refusal::Ragged;
-            return write!(output, "{}", fault_line(&Fault { refusal, place }));
-        }
-        write!(output, "{}", answer_line(planner, &read_call(&bytes)))?;
+/// The calls of a trace. They keep nothing beside the planner.
+struct Calls;
+
+impl Records for Calls {
+    const BYTES: usize = CALL_BYTES;
+
+    fn answer_line<P: LookAhead>(&mut self, planner: &mut P, record: &[u8]) -> String {
+        let call = record.try_into().expect("the bytes of one call");
+        answer_line(planner, &read_call(call))
     }
-    Ok(())
+
+    fn last_lines(&self) -> String {
+        String::new()
+    }
 }
 
 /// Runs one call and gives the line that answers it.
 pub fn answer_line<P: LookAhead>(planner: &mut P, call: &Call) -> String {
-    let answer = match call {
-        Call::Take => planner.take().map(|given| given_line(&given)),
-        Call::Add(block) => planner.add(block).map(|()| "added\n".to_string()),
-    };
-    answer.unwrap_or_else(|refusal| format!("refused {}\n", refusal.number()))
+    match call {
+        Call::Take => taken_line(planner),
+        Call::Add(block) => added_line(planner.add(block)),
+    }
+}
+
+/// Takes a block and gives the line that answers it.
+pub fn taken_line<P: LookAhead>(planner: &mut P) -> String {
+    let answer = planner.take().map(|given| given_line(&given));
+    answer.unwrap_or_else(refused_line)
+}
+
+/// The line of an add, or of an order that is one.
+pub fn added_line(answer: Result<(), Refusal>) -> String {
+    answer.map_or_else(refused_line, |()| "added\n".to_string())
+}
+
+/// The line of a refused call.
+fn refused_line(refusal: Refusal) -> String {
+    format!("refused {}\n", refusal.number())
 }
 
 /// The two closing lines: number held, and the plan shown.
@@ -121,6 +121,13 @@ pub fn closing_lines<P: LookAhead>(planner: &P) -> String {
     planner.shown(&mut plan).expect("list of the right length");
     let numbers: String = plan.iter().map(|number| format!(" {number}")).collect();
     format!("held {}\nplan{numbers}\n", planner.told())
+}
+
+/// What is written into a list of bytes, as text.
+pub fn text_of(write: impl FnOnce(&mut Vec<u8>) -> io::Result<()>) -> String {
+    let mut text = Vec::new();
+    write(&mut text).expect("a list of bytes takes every write");
+    String::from_utf8(text).expect("digits, letters and spaces")
 }
 
 /// Fills the buffer as far as the input goes; gives the number of bytes read.

@@ -31,7 +31,7 @@ const FINE_CHORDS: usize = 48;
 const FINE_RADIUS: i64 = 10_025;
 
 /// Scale of a direction's two parts.
-const UNIT: i64 = 1_000_000_000;
+pub const UNIT: i64 = 1_000_000_000;
 
 /// The text of the pocket.
 pub fn pocket_with_boss() -> String {
@@ -137,7 +137,7 @@ fn corners(radius: i64, count: usize) -> Vec<[i64; 2]> {
 /// Directions that part the full turn into 12 × 2^k, from the X axis on, in
 /// parts of `UNIT`. Twelve are known by a root; a direction half way between two
 /// is that of their sum.
-fn directions(count: usize) -> Vec<[i64; 2]> {
+pub fn directions(count: usize) -> Vec<[i64; 2]> {
     let (half, high) = (UNIT / 2, (3 * UNIT * UNIT).isqrt() / 2);
     let mut all = vec![[UNIT, 0], [high, half], [half, high]];
     for k in 0..9 {

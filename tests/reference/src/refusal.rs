@@ -17,10 +17,12 @@ pub enum Refusal {
     Word = 12,
     Number = 13,
     Steps = 14,
+    NotFinite = 15,
+    Beyond = 16,
 }
 
 impl Refusal {
-    /// Number on the display: 1 to 14.
+    /// Number on the display: 1 to 16.
     pub fn number(self) -> u64 {
         self as u64
     }
@@ -42,6 +44,8 @@ impl Refusal {
             Refusal::Word => "word",
             Refusal::Number => "number",
             Refusal::Steps => "steps",
+            Refusal::NotFinite => "not finite",
+            Refusal::Beyond => "beyond",
         }
     }
 

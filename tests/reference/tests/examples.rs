@@ -1,11 +1,11 @@
-//! The stored example tapes, traces, torque steps and texts.
+//! The stored example tapes, traces, torque steps, texts and orders.
 
 use std::fs;
 use std::path::PathBuf;
 
 use reference::examples::{
-    example, example_steps, example_text, example_trace, shop_traffic, AHEAD, NAMES, STEP_NAMES,
-    TEXT_NAMES, TRACE_NAMES,
+    example, example_orders, example_steps, example_text, example_trace, shop_traffic, AHEAD,
+    NAMES, ORDER_NAMES, STEP_NAMES, TEXT_NAMES, TRACE_NAMES,
 };
 use reference::listing::{planlist, planreplay};
 use reference::machine::read_steps;
@@ -54,6 +54,15 @@ fn stored_texts_are_these() {
         assert!(stored(&format!("text/{name}.ngc")) == text, "{name}");
     }
     assert_eq!(example_text("none"), None);
+}
+
+#[test]
+fn stored_orders_are_these() {
+    for name in ORDER_NAMES {
+        let orders = example_orders(name).unwrap();
+        assert!(stored(&format!("orders/{name}.orders")) == orders, "{name}");
+    }
+    assert_eq!(example_orders("none"), None);
 }
 
 /// The shop's line holds 0 to 8 blocks, and all of these numbers occur. It is

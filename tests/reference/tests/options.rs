@@ -1,4 +1,5 @@
-//! The programs `planlist_ref` and `planreplay_ref` with a file of torque steps.
+//! The programs `planlist_ref`, `planreplay_ref` and `planorders_ref` with a file
+//! of torque steps.
 
 use std::ffi::OsString;
 use std::fs;
@@ -6,12 +7,14 @@ use std::io::Write;
 use std::path::PathBuf;
 use std::process::{Command, Output, Stdio};
 
-use reference::examples::{example_trace, mould_row};
+use reference::examples::{example_orders, example_trace, mould_row};
 use reference::listing::{planlist, planreplay};
 use reference::options::{asked, steps_of, Asked};
+use reference::order_listing::planorders;
 
 const PLANLIST: &str = env!("CARGO_BIN_EXE_planlist_ref");
 const PLANREPLAY: &str = env!("CARGO_BIN_EXE_planreplay_ref");
+const PLANORDERS: &str = env!("CARGO_BIN_EXE_planorders_ref");
 const TENS: [u8; 8] = [100, 90, 80, 70, 60, 50, 40, 30];
 
 /// A file of these bytes, under a name that no other test uses.
@@ -52,13 +55,15 @@ fn tells(program: &str, arguments: &[&str]) {
     assert!(output.stdout.is_empty() && !output.status.success());
 }
 
-/// Both programs with the file's whole content as the list of steps.
+/// The programs with the file's whole content as the list of steps.
 fn with_file(name: &str, steps: &[u8]) {
     let path = file(name, steps);
     let arguments = ["--steps", path.to_str().unwrap()];
     let (tape, trace) = (mould_row().pack(), example_trace("shop-traffic").unwrap());
     writes(PLANLIST, &arguments, &tape, &planlist(&tape, steps));
     writes(PLANREPLAY, &arguments, &trace, &planreplay(&trace, steps));
+    let orders = example_orders("cam-host").unwrap();
+    writes(PLANORDERS, &arguments, &orders, &planorders(&orders, steps));
 }
 
 #[test]
@@ -90,6 +95,9 @@ fn without_options() {
     writes(PLANREPLAY, &[], &trace, &planreplay(&trace, &[]));
     assert_ne!(planlist(&tape, &TENS), planlist(&tape, &[]));
     assert_ne!(planreplay(&trace, &TENS), planreplay(&trace, &[]));
+    let orders = example_orders("cam-host").unwrap();
+    writes(PLANORDERS, &[], &orders, &planorders(&orders, &[]));
+    assert_ne!(planorders(&orders, &[50; 8]), planorders(&orders, &[]));
 }
 
 #[test]
@@ -99,6 +107,7 @@ fn help_and_wrong_use() {
     for (program, usage) in [
         (PLANLIST, "planlist_ref [--steps FILE] < tape\n"),
         (PLANREPLAY, "planreplay_ref [--steps FILE] < trace\n"),
+        (PLANORDERS, "planorders_ref [--steps FILE] < orders\n"),
     ] {
         writes(program, &["--help"], &[], usage);
         tells(program, &["--steps"]);

@@ -1,10 +1,13 @@
-//! The stored inputs of the programs `planlist` and `planreplay`, and the texts
-//! that they must write.
+//! The stored inputs of the programs `planlist`, `planreplay` and `planorders`,
+//! and the texts that they must write.
 
 use std::collections::BTreeSet;
 
 use reference::examples::right_angle;
 use reference::listing::{planlist, planreplay};
+use reference::order_cases::{order_cases, worked};
+use reference::order_listing::planorders;
+use reference::orders::EVENT_BYTES;
 use reference::tape::LIMITS_BYTES;
 use reference::trace::CALL_BYTES;
 
@@ -12,6 +15,8 @@ const TAPE: &[u8] = include_bytes!("../../../crates/planlist/stdin");
 const LISTING: &str = include_str!("../../../crates/planlist/stdout");
 const TRACE: &[u8] = include_bytes!("../../../crates/planreplay/stdin");
 const ANSWERS: &str = include_str!("../../../crates/planreplay/stdout");
+const ORDERS: &[u8] = include_bytes!("../../../crates/planorders/stdin");
+const ORDERED: &str = include_str!("../../../crates/planorders/stdout");
 /// Calls that planreplay runs at a time.
 const CHUNK_CALLS: usize = 300;
 
@@ -27,17 +32,46 @@ fn stored_answers_are_those_of_the_trace() {
     assert!(ANSWERS == planreplay(TRACE, &[]));
 }
 
+/// The numbers of the refusals in a text.
+fn refusals(text: &str) -> BTreeSet<u64> {
+    let refused = text
+        .lines()
+        .filter_map(|line| line.strip_prefix("refused "));
+    refused
+        .map(|rest| rest.split(' ').next().unwrap().parse().unwrap())
+        .collect()
+}
+
 /// Every number by which a call can be refused occurs, and the trace ends
 /// inside a call of the second chunk.
 #[test]
 fn stored_trace_tells() {
-    let refused = ANSWERS
-        .lines()
-        .filter_map(|line| line.strip_prefix("refused "));
-    let numbers: BTreeSet<u64> = refused
-        .map(|rest| rest.split(' ').next().unwrap().parse().unwrap())
-        .collect();
-    assert_eq!(numbers, (2..=9).collect());
+    assert_eq!(refusals(ANSWERS), (2..=9).collect());
     let calls = TRACE.len() - LIMITS_BYTES;
-    assert!(calls / CALL_BYTES > CHUNK_CALLS && calls % CALL_BYTES != 0);
+    assert!(calls / CALL_BYTES > CHUNK_CALLS && !calls.is_multiple_of(CALL_BYTES));
+}
+
+#[test]
+fn stored_answers_are_those_of_the_orders() {
+    assert!(ORDERS == order_cases());
+    assert!(ORDERED == planorders(ORDERS, &[]));
+}
+
+/// The worked events come first. Every number by which an event can be refused
+/// occurs but 6, for which too many orders would be needed; so do lines of adds
+/// and of blocks given out, and the orders end inside an event.
+#[test]
+fn stored_orders_tell() {
+    let first: Vec<u8> = worked().iter().flat_map(|event| event.bytes()).collect();
+    assert!(ORDERS[LIMITS_BYTES..].starts_with(&first));
+    let numbers = [2, 3, 4, 5, 7, 8, 9, 15, 16];
+    assert_eq!(refusals(ORDERED), BTreeSet::from(numbers));
+    let given = |line: &&str| line.split(' ').count() == 9 && !line.starts_with("plan");
+    assert!(ORDERED.lines().filter(given).count() > 50);
+    assert!(ORDERED.lines().filter(|line| *line == "added").count() > 100);
+    let events = ORDERS.len() - LIMITS_BYTES;
+    assert!(events / EVENT_BYTES > CHUNK_CALLS && !events.is_multiple_of(EVENT_BYTES));
+    let last: Vec<&str> = ORDERED.lines().rev().take(4).collect();
+    assert!(last[0].starts_with("point ") && last[1].starts_with("plan "));
+    assert!(last[2].starts_with("held ") && last[3].starts_with("refused 9 at "));
 }

@@ -1,10 +1,12 @@
-//! Seeded limits, torque steps, blocks, tapes, call lists and texts for the
-//! comparisons.
+//! Seeded limits, torque steps, blocks, tapes, call lists, texts and a host's
+//! events for the comparisons.
 
 mod blocks;
 mod calls;
 mod curves;
+mod doubles;
 mod limits;
+mod orders;
 mod pen;
 mod speeds;
 mod spelling;
@@ -18,7 +20,11 @@ pub use blocks::{
 };
 pub use calls::{calls, trace};
 pub use curves::{limits_and_path, tight_path, tight_radius};
+pub use doubles::{
+    any_radius, any_speed, decimal, decimal_half, double, exact_half, not_finite, pair,
+};
 pub use limits::{faulty_limits, limits, machine_m, tiny_limits, with_chord};
+pub use orders::{event, events, orders};
 pub use speeds::{block_of_speed, edge_speeds, path_at_edges, Cause, Way, CAUSES, WAYS};
 pub use steps::{faulty_steps, loaded_steps, steps};
 pub use tapes::{faulty_tape, set_last_bit, spoil_record, tape, TAPE_FAULTS};

@@ -9,12 +9,14 @@ use Rattle.host.proofs.reading.check_amount.Tie as tie
 returns : tie.Need-returns
 returns c =
     let k = c .before in
-    amount-below _ (k .known-told .given .0 .1) (c .if1 .taken) ∙ sym (ap amountFault (k .before .r .given .1))
+    let r = k .before .r .given in
+    amount-below (r .0 .0) (k .known-told .given .0 .1) (c .if1 .taken) ∙ sym (ap amountFault (r .1))
 
 returns-4 : tie.Need-returns-4
 returns-4 c =
     let k = c .before in
-    amount-above _ (k .known-told .given .0 .1) (c .if1 .left) ∙ sym (ap amountFault (k .before .r .given .1))
+    let r = k .before .r .given in
+    amount-above (r .0 .0) (k .known-told .given .0 .1) (c .if1 .left) ∙ sym (ap amountFault (r .1))
 
 pub check-amount-spec : {M : Type 1} → statement M
 check-amount-spec = tie.close (tie.spec (λ c. search needs) (λ c. search needs) (λ c. search needs) returns (λ c. search needs) (λ c. search needs) returns-4)
