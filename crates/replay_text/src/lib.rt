@@ -36,7 +36,7 @@ pub fn write_answer(a: Answer, text: &mut [u8], at: usize) -> usize
     }
 }
 
-// How many records of `size` bytes a chunk has, the whole ones up to the most.
+// How many records of `size` bytes of a chunk are run: the whole ones, at most so many.
 pub fn records_of(bytes: &[u8], size: usize, most: usize) -> usize
     requires { ⌜ 0 < size ⌝ }
     ensures { λ r. ⌜ r ≡ min (length (now (bytes .entry)) / size) most ⌝ }
