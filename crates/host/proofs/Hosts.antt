@@ -1,6 +1,7 @@
 -- The numbers that keep a host: whatever they are the point is within 32 bits, and a host behind an accepted order is read back from them. From
 -- the laws of two's complement.
 use mathlib.Core.Path.{_≡_, refl, sym, ap, _∙_}
+use mathlib.Core.Bool.{true}
 use Prim.Native.Nat.{ℕ, suc, _+_, _-_, _%_, _^_, _≤_, _<_}
 use native.Mathlib.Nat.{mod-eq-of-lt}
 use native.Mathlib.Decide.{decLt}
