@@ -25,8 +25,9 @@
  * tick. Between moves of a few µm a corner may have no cap, since lengths are rounded down.
  *
  * Lent memory: a pointer must not be null and must be aligned as its type asks (8 bytes for the
- * lists of numbers and doubles, 1 for bytes). Behind it must be as many items as the array's size or the
- * count beside it says. The lists lent to one call must not overlap where one of them is written.
+ * lists of numbers and doubles, 1 for bytes). Behind it must be as many items as the array's size
+ * or the count beside it says. The lists lent to one call must not overlap where one of them is
+ * written.
  *
  * Threads: there is no shared state. Calls may run at the same time if they are lent different
  * memory; a planner's memory and a host's are used by one call at a time (several fullerecru_told,
