@@ -1,2 +1,3 @@
 -- What the client's proofs share.
 pub mod Worked
+pub mod Rapid

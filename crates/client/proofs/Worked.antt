@@ -29,7 +29,7 @@ unfolding limitsRefusal limitsWithin stepsRefusal
 machine-pass = refl
 
 -- one block added to a fresh planner on machine M, and two: the memory holds their line
-held-fresh : {m n : List ℕ} {l : Limits} {refusal : ℕ} → l ≡ limitsM → Freshened m l [] refusal n → MemoryHolds n (freshLine machineM)
+pub held-fresh : {m n : List ℕ} {l : Limits} {refusal : ℕ} → l ≡ limitsM → Freshened m l [] refusal n → MemoryHolds n (freshLine machineM)
 held-fresh e f = rw e at (f .line (f .answer ∙ ap (λ (l : Limits). machineRefusal l []) e ∙ machine-pass))
 
 module _ (a b : Block) {m n p : List ℕ} {l : Limits} {refusal : ℕ} {x : Block} {said : Answer} (el : l ≡ limitsM) (ex : x ≡ a) where

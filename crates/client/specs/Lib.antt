@@ -1,2 +1,3 @@
--- The blocks of the worked results.
+-- The blocks and points of the worked results.
 pub mod Work
+pub mod Hosted

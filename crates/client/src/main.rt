@@ -16,6 +16,7 @@ use planner::NUMBERS;
 use planner::Planner;
 
 mod demands;
+mod hosted;
 
 // What a fresh planner, two adds, a take, told and shown answered.
 pub struct Answered {
@@ -202,6 +203,7 @@ fn main() {
     right_angle();
     refused_still();
     short_list();
+    hosted::one_rapid();
     let mut memory = [7u64; NUMBERS];
     was_refused(&mut memory, block(0, 0, 0));
     demanded(&mut memory);

@@ -14,6 +14,10 @@ use Rattle.line.proofs.Demand.{demand-one}
 use Rattle.planner.specs.Calls.{Called, Showed}
 use Rattle.planner.specs.View.{viewOf}
 use Rattle.planner.proofs.Determined.{called-one}
+use Rattle.host.specs.Calls.{Ordered}
+use Rattle.host.specs.declared.orders.Order.{Order}
+use Rattle.host.specs.declared.orders.Point.{Point}
+use Rattle.host.proofs.Determined as host
 use Rattle.replay.specs.Rows.{rowsOf}
 use Rattle.replay.specs.Replays.{Demanded}
 use Rattle.fullerecru.specs.Planners.{movesAfter, numbersAfter, TakenOut}
@@ -30,6 +34,11 @@ added-number p = one-number (p .answer)
 
 pub shown-number : {m lent left : List ℕ} {n : ℕ} → Showed m lent (answerBy n) left → n ≡ showRefusal (viewOf m) (length lent)
 shown-number p = one-number (p .answer)
+
+-- all that an order returns and leaves,
+pub ordered-one : {m h a b c d : List ℕ} {o : Order} {offset : Point} {n k : ℕ} → Ordered m h o offset (answerBy n) a c → Ordered m h o offset (answerBy k) b d
+    → (n ≡ k) × ((a ≡ b) × (c ≡ d))
+ordered-one p q = let s = host.ordered-one p q in (one-number (s .0), s .1)
 
 -- all that a take returns and leaves,
 pub taken-one : {m a b numbers na nb : List ℕ} {moves ma mb : List ℤ} {n k : ℕ} → TakenOut m n a moves ma numbers na → TakenOut m k b moves mb numbers nb

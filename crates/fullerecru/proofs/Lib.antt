@@ -4,3 +4,4 @@ pub mod Displayed
 pub mod FromBytes
 pub mod WholeTapes
 pub mod LentTexts
+pub mod LentOrders

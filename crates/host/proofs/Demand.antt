@@ -8,7 +8,7 @@ use Rattle.display.specs.Display.{byNumber, _then_}
 use Rattle.display.proofs.Answers.{at-zero, above-zero, then-first, then-second}
 use Rattle.machine.specs.Torque.{machineOf}
 use Rattle.machine.specs.declared.Limits.{Limits}
-use Rattle.line.specs.Answers.{Answer, refused, answerBy}
+use Rattle.line.specs.Answers.{Answer, answerBy}
 use Rattle.line.specs.Blocks.{Line, freshLine, add, addRefusal, lineAnswer, lineAfterAll}
 use Rattle.line.specs.Chains.{none, next}
 use Rattle.line.proofs.Chains.{chain-both}
@@ -25,11 +25,7 @@ use Rattle.host.specs.declared.orders.Order.{Order}
 use Rattle.host.specs.declared.orders.Point.{Point}
 use Rattle.host.proofs.Fields.{fields-read}
 use Rattle.host.proofs.Hosts.{host-back, fresh-back}
-
--- A number above 0 refuses.
-refused-by : (n : ℕ) → 0 < n → answerBy n ≡ refused n
-refused-by zero h = absurd (omega arith)
-refused-by (suc n) h = refl
+use Rattle.host.proofs.Outcomes.{refused-by}
 
 -- What one event does, of a host and a line that the numbers hold: it is answered as they say, is a call of the planner or none, and leaves
 -- numbers that hold the next host and line.

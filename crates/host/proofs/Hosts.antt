@@ -1,16 +1,18 @@
 -- The numbers that keep a host: whatever they are the point is within 32 bits, and a host behind an accepted order is read back from them. From
 -- the laws of two's complement.
-use mathlib.Core.Path.{_≡_, refl, ap, _∙_}
-use Prim.Native.Nat.{ℕ, _+_, _^_, _≤_, _<_}
+use mathlib.Core.Path.{_≡_, refl, sym, ap, _∙_}
+use Prim.Native.Nat.{ℕ, suc, _+_, _-_, _%_, _^_, _≤_, _<_}
 use native.Mathlib.Nat.{mod-eq-of-lt}
+use native.Mathlib.Decide.{decLt}
 use native.Mathlib.Omega.{arith}
+use borrow.Author.Tests.{lt-ltb, le-ltb}
 use lib.Dec.{lit<}
 use lib.Ieee.{binary64, ofInt}
 use lib.IntN.{ℤ, pos, negsuc, natAbs, _-ℤ_}
 use lib.Signed.{mag}
 use Rattle.arith.proofs.SignedLaws.{mag-le, natAbs-minus, readBack, small-back}
 use Rattle.fields.specs.Signed.{signedOf, bitsOf}
-use Rattle.fields.proofs.Signed.{signed-bits, signed-range}
+use Rattle.fields.proofs.Signed.{signed-bits, signed-high, signed-low, signed-range}
 use Rattle.display.proofs.Answers.{then-zero}
 use Rattle.line.specs.Blocks.{addRefusal}
 use Rattle.machine.specs.Checks.{blockRefusal}
@@ -19,6 +21,18 @@ use Rattle.doubles.specs.Readings.{mostRead}
 use Rattle.host.specs.Fields.{Read, valueOf}
 use Rattle.host.specs.State.{Host, freshHost, hostBits, coordinateOf, hostOf, hostNumbers, hostBehind, blockOf}
 use Rattle.host.specs.declared.orders.Readings.{Readings}
+
+-- A coordinate by two's complement, from the number shifted by half the range.
+pub coordinate-shifted : (n : ℕ) → pos ((n % 2 ^ 32 + 2 ^ 31) % 2 ^ 32) -ℤ pos (2 ^ 31) ≡ coordinateOf n
+coordinate-shifted n = go (decLt (n % 2 ^ 32 + n % 2 ^ 32) (2 ^ 32))
+  where
+    go : Dec (n % 2 ^ 32 + n % 2 ^ 32 < 2 ^ 32) → pos ((n % 2 ^ 32 + 2 ^ 31) % 2 ^ 32) -ℤ pos (2 ^ 31) ≡ coordinateOf n
+    go (yes h) =
+        let same : (n % 2 ^ 32 + 2 ^ 31) % 2 ^ 32 - 2 ^ 31 ≡ n % 2 ^ 32 = omega arith in
+        rw (le-ltb ((n % 2 ^ 32 + 2 ^ 31) % 2 ^ 32) (2 ^ 31) (omega arith)) (ap pos same ∙ sym (signed-low 32 {p = 2 ^ 32} refl n h))
+    go (no h) =
+        let same : 2 ^ 31 - suc ((n % 2 ^ 32 + 2 ^ 31) % 2 ^ 32) ≡ 2 ^ 32 - 1 - n % 2 ^ 32 = omega arith in
+        rw (lt-ltb ((n % 2 ^ 32 + 2 ^ 31) % 2 ^ 32) (2 ^ 31) (omega arith)) (ap negsuc same ∙ sym (signed-high 32 {p = 2 ^ 32} refl n (omega arith)))
 
 -- A coordinate that is kept, whatever its number.
 pub coordinate-small : (n : ℕ) → natAbs (coordinateOf n) ≤ 2 ^ 31

@@ -18,7 +18,6 @@ use arith::signed::minus;
 use doubles::Reading;
 use doubles::whole;
 use fields::to_bits;
-use fields::to_signed;
 use line::AddAnswer;
 use machine::Block;
 use machine::blocks::plain_block;
@@ -28,11 +27,15 @@ const BITS: usize = 32;
 
 const COUNTED: u64 = 4_294_967_296;
 
-// A coordinate of the host's point, µm.
+const HALF: u64 = 2_147_483_648;
+
+// A coordinate of the host's point, µm. Shifted by half the range, two's complement is a plain number; the compiler makes one
+// load of it.
 pub(crate) fn coordinate_of(number: u64) -> i64
     ensures { λ r. ⌜ r ≡ coordinateOf number ⌝ }
 {
-    to_signed(number, BITS)
+    let shifted = (number % COUNTED + HALF) % COUNTED;
+    shifted as i64 - HALF as i64
 }
 
 // The same as a double.

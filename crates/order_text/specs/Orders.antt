@@ -6,7 +6,8 @@ use lib.Ieee.{Float, binary64, ofBits}
 use lib.ListN.{take, drop}
 use Rattle.fields.specs.Bytes.{numberOf}
 use Rattle.fields.specs.Fields.{fieldOf}
-use Rattle.fields.specs.Records.{recordIn}
+use Rattle.fields.specs.Records.{recordIn, wholeRecords}
+use Rattle.tape.specs.Tape.{limitsBytes}
 use Rattle.line.specs.declared.Call.the-variants.{Take}
 use Rattle.host.specs.declared.orders.Point.{Point}
 use Rattle.host.specs.declared.orders.Order.{Order}
@@ -56,3 +57,7 @@ eventOf bytes = eventBy (kindIn bytes) (orderOf (kindIn bytes) bytes) (pointIn b
 -- event k of bytes with no limits before them, k counted from 0
 abbrev pub eventIn : List ℕ → ℕ → host.Event
 eventIn bytes k = eventOf (recordIn eventBytes bytes k)
+
+-- the whole events of orders, behind the limits
+abbrev pub ordersEvents : List ℕ → List host.Event
+ordersEvents s = wholeRecords eventBytes eventOf (drop limitsBytes s)

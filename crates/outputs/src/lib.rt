@@ -1,6 +1,8 @@
 // What the programs write: a text and the line of a refusal to standard output, and what is wrong to standard error.
 ghost use Prim.Native.Nat.{_≤_};
 ghost use lib.ListN.{length};
+use display::Refusal;
+use display::refusal_number;
 use libc::STDERR_FILENO;
 use libc::STDOUT_FILENO;
 use text::Put;
@@ -18,6 +20,15 @@ pub fn say_refused(number: u64, place: u64, text: &mut [u8]) -> bool {
         Put::At(end) => say(end, text),
         Put::NoRoom => say(0, text),
     }
+}
+
+// Writes the line of a record that an input ends inside, by its place from 1, made in a lent text; none where the place is 0.
+// Returns whether it was taken.
+pub fn say_cut(place: u64, text: &mut [u8]) -> bool {
+    if place == 0 {
+        return true;
+    }
+    say_refused(refusal_number(Refusal::Ragged), place, text)
 }
 
 // Writes a line to standard error.

@@ -4,19 +4,14 @@
 // plan. A trace with no whole limits, or limits or steps that do not pass, gets the one line `refused`
 // with number and place 0. A trace that ends inside a call gets such a line in that call's place, with
 // its place counted from 1, and then the two closing lines.
-ghost use Prim.Native.Nat.{_≤_};
-ghost use lib.ListN.{length};
-ghost use Rattle.replay_text.specs.Texts.{recordedCalls};
-ghost use Rattle.replay_text.specs.Turns.{chunkBytes};
-ghost use Rattle.planreplay.specs.Places.{turnBytes};
 use arguments::Order;
 use arguments::STEPS;
 use arguments::read_order;
 use display::Checked;
-use display::Refusal;
 use display::refusal_number;
 use machine::Limits;
 use outputs::say;
+use outputs::say_cut;
 use outputs::say_error;
 use outputs::say_refused;
 use planner::NUMBERS;
@@ -33,16 +28,6 @@ const CHUNK: usize = CALL_BYTES * replay_text::CALLS;
 // Reading ends at this many calls, which no input has.
 const MOST_CALLS: u64 = 18_446_744_073_709_551_000;
 
-// A chunk that was read and run.
-enum Turn {
-    // how many bytes were read, and the lines of their calls were written
-    Ran(usize),
-    // standard output did not take the lines
-    Unwritten,
-    // standard input could not be read to its end
-    Unread,
-}
-
 // How running all calls ended.
 enum Ended {
     // the place from 1 of the call that the input ends inside; 0 where it ends with a whole call
@@ -53,27 +38,10 @@ enum Ended {
     Unread,
 }
 
-// Reads a chunk, runs its calls and writes their lines.
-fn run_next(chunk: &mut [u8], memory: &mut [u64; NUMBERS], text: &mut [u8; TEXT]) -> Turn
-    ensures { λ r. ⌜ turnBytes r ≤ length (now (chunk .entry)) ⌝ }
-{
-    match read_input(chunk) {
-        Input::Failed => Turn::Unread,
-        Input::Bytes(got) => {
-            let end = replay_text::run_chunk(&chunk[..got], memory, text);
-            if !say(end, text) {
-                return Turn::Unwritten;
-            }
-            Turn::Ran(got)
-        }
-    }
-}
-
-// The same with a whole chunk.
-fn run_chunk(chunk: &mut [u8; CHUNK], memory: &mut [u64; NUMBERS], text: &mut [u8; TEXT]) -> Turn
-    ensures { λ r. ⌜ turnBytes r ≤ chunkBytes recordedCalls ⌝ }
-{
-    run_next(chunk, memory, text)
+// Runs the calls of a chunk and writes their lines. Returns whether they were taken.
+fn run_chunk(bytes: &[u8], memory: &mut [u64; NUMBERS], text: &mut [u8; TEXT]) -> bool {
+    let end = replay_text::run_chunk(bytes, memory, text);
+    say(end, text)
 }
 
 // Runs all calls of the input, as long as it can be read and their lines are taken.
@@ -81,14 +49,14 @@ fn run_calls(memory: &mut [u64; NUMBERS], text: &mut [u8; TEXT]) -> Ended {
     let mut chunk = [0u8; CHUNK];
     let mut calls: u64 = 0;
     while calls < MOST_CALLS {
-        match run_chunk(&mut chunk, memory, text) {
-            Turn::Unwritten => return Ended::Unwritten,
-            Turn::Unread => return Ended::Unread,
-            Turn::Ran(got) => {
-                if got < CHUNK {
-                    return Ended::At(cut_at(CALL_BYTES, calls, got));
-                }
-            }
+        let Input::Bytes(got) = read_input(&mut chunk) else {
+            return Ended::Unread;
+        };
+        if !run_chunk(&chunk[..got], memory, text) {
+            return Ended::Unwritten;
+        }
+        if got < CHUNK {
+            return Ended::At(cut_at(CALL_BYTES, calls, got));
         }
         calls += replay_text::CALLS as u64;
     }
@@ -108,10 +76,8 @@ fn say_unread() {
 // Writes the line of a call that the input ends inside, where there is one, and the closing lines.
 // Returns whether they were taken.
 fn finish(place: u64, memory: &[u64; NUMBERS], text: &mut [u8; TEXT]) -> bool {
-    if 0 < place {
-        if !say_refused(refusal_number(Refusal::Ragged), place, text) {
-            return false;
-        }
+    if !say_cut(place, text) {
+        return false;
     }
     let end = replay_text::close(memory, text);
     say(end, text)

@@ -9,7 +9,7 @@ use Rattle.planner.specs.Calls.{Told, Showed}
 use Rattle.replay.specs.Runs.{Ran}
 use Rattle.text.specs.Store.{Stored}
 use Rattle.replay_text.specs.Texts.{closingText}
-use Rattle.replay_text.specs.Chunks.{Recorded, textBytes}
+use Rattle.replay_text.specs.Chunks.{Recorded, lineBytes, textBytes}
 
 -- calls in turn, and the lines of their own answers from the first byte on; `end` is how many bytes they take
 pub record RanText {S C A : Type 0} (r : Recorded S C A) (calls : List C) (state state′ : S) (text : List ℕ) (end : ℕ) (text′ : List ℕ) : Type 0 where
@@ -18,9 +18,9 @@ pub record RanText {S C A : Type 0} (r : Recorded S C A) (calls : List C) (state
   pub ran : Ran (r .Step) (r .line) calls state state′ lines
   pub stored : Stored text 0 lines end text′
 
--- the closing lines of a number told and a plan, from the first byte on
+-- the closing lines of a number told and a plan, from the first byte on; behind them there is room for one line more
 pub record Ended (told : ℕ) (plan text : List ℕ) (end : ℕ) (text′ : List ℕ) : Type 0 where
-  pub few : end ≤ textBytes
+  pub few : end + lineBytes ≤ textBytes
   pub stored : Stored text 0 (closingText told plan) end text′
 
 -- the closing lines of a planner: those of the number told, and of the plan shown in a lent list that it fills

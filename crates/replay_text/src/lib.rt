@@ -1,12 +1,12 @@
 // The text of calls that are run through a planner: a line for each call, and the two closing lines,
 // stored in bytes that the caller lends. A trace of any length is run chunk by chunk in one such list.
 ghost use mathlib.Core.Path.{_≡_};
-ghost use Prim.Native.Nat.{_+_, _≤_};
+ghost use Prim.Native.Nat.{_+_, _/_, _<_, _≤_, min};
 ghost use lib.ListN.{length};
 ghost use Rattle.line.specs.Answers.{answerMeans};
 ghost use Rattle.listing.specs.Given.{WroteLine};
 ghost use Rattle.replay.specs.Replays.{planSize};
-ghost use Rattle.replay_text.specs.Chunks.{chunkCalls, chunkSize, lineBytes, textBytes};
+ghost use Rattle.replay_text.specs.Chunks.{chunkCalls, lineBytes, textBytes};
 ghost use Rattle.replay_text.specs.Texts.{answerText, recordedCalls};
 ghost use Rattle.replay_text.specs.Runs.{Closed, Ended, RanText};
 use display::refusal_number;
@@ -25,7 +25,7 @@ pub const CALLS: usize = 300;
 pub const TEXT: usize = 65_536;
 
 // Stores the line of an answer.
-fn write_answer(a: Answer, text: &mut [u8], at: usize) -> usize
+pub fn write_answer(a: Answer, text: &mut [u8], at: usize) -> usize
     requires { ⌜ at + lineBytes ≤ length (now text) ⌝ }
     ensures { λ r. ⌜ WroteLine (answerText (answerMeans a)) (now (text .entry)) at r (now (text .exit)) ⌝ }
 {
@@ -36,15 +36,16 @@ fn write_answer(a: Answer, text: &mut [u8], at: usize) -> usize
     }
 }
 
-// How many calls of a chunk are run.
-fn calls_of(bytes: &[u8]) -> usize
-    ensures { λ r. ⌜ r ≡ chunkSize recordedCalls (now (bytes .entry)) ⌝ }
+// How many records of `size` bytes of a chunk are run: the whole ones, at most so many.
+pub fn records_of(bytes: &[u8], size: usize, most: usize) -> usize
+    requires { ⌜ 0 < size ⌝ }
+    ensures { λ r. ⌜ r ≡ min (length (now (bytes .entry)) / size) most ⌝ }
 {
-    let whole = bytes.len() / CALL_BYTES;
-    if whole < CALLS {
+    let whole = bytes.len() / size;
+    if whole < most {
         return whole;
     }
-    CALLS
+    most
 }
 
 // Runs the calls of a chunk in turn, each line behind the one before it.
@@ -52,7 +53,7 @@ fn run(bytes: &[u8], memory: &mut [u64; NUMBERS], text: &mut [u8]) -> usize
     requires { ⌜ length (now text) ≡ textBytes ⌝ }
     ensures { λ r. ⌜ RanText recordedCalls (chunkCalls recordedCalls (now (bytes .entry))) (now (memory .entry)) (now (memory .exit)) (now (text .entry)) r (now (text .exit)) ⌝ }
 {
-    let n = calls_of(bytes);
+    let n = records_of(bytes, CALL_BYTES, CALLS);
     let mut end: usize = 0;
     let mut k: usize = 0;
     while k < n {
@@ -80,8 +81,9 @@ fn write_end(told: u64, plan: &[u64], text: &mut [u8]) -> usize
     behind(text::put_plan(text, end, plan), end)
 }
 
-// The number told and the plan shown, as the closing lines.
-fn close_in(memory: &[u64; NUMBERS], text: &mut [u8]) -> usize
+// Stores the closing lines from the first byte on: the number of blocks held, and the plan. Returns
+// how many bytes they take; there is room for one line more.
+pub fn close_in(memory: &[u64; NUMBERS], text: &mut [u8]) -> usize
     requires { ⌜ length (now text) ≡ textBytes ⌝ }
     ensures { λ r. ⌜ Closed (now (memory .entry)) (now (text .entry)) r (now (text .exit)) ⌝ }
 {
@@ -91,8 +93,7 @@ fn close_in(memory: &[u64; NUMBERS], text: &mut [u8]) -> usize
     write_end(told, &plan[..junctions], text)
 }
 
-// Stores the closing lines from the first byte on: the number of blocks held, and the plan. Returns
-// how many bytes they take.
+// The same with a whole list for the text.
 pub fn close(memory: &[u64; NUMBERS], text: &mut [u8; TEXT]) -> usize
     ensures { λ r. ⌜ Closed (now (memory .entry)) (now (text .entry)) r (now (text .exit)) ⌝ }
 {

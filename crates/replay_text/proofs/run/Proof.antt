@@ -19,7 +19,7 @@ abbrev μ-loop : tie.MeasureT-loop
 μ-loop bytes memory₀ text₀ n end₀ k₀ memory text end k = n - k
 
 loop-holds : tie.Need-loop-holds Inv-loop μ-loop
-loop-holds c = let s = c .before .before .before .args in (search needs, (c .calls-of .ensures, (c .before .before .before .pre, (omega arith, ran-none recordedCalls (s .bytes .now) (s .memory .now) (s .text .now)))))
+loop-holds c = let s = c .before .before .before .args in (search needs, (c .records-of .ensures, (c .before .before .before .pre, (omega arith, ran-none recordedCalls (s .bytes .now) (s .memory .now) (s .text .now)))))
 
 loop-again : tie.Need-loop-again Inv-loop μ-loop
 loop-again c =

@@ -1,0 +1,165 @@
+// Runs the orders and takes of standard input, of any number, in constant memory, with the torque steps
+// of the file that `--steps` names, or the built-in ones, and writes a line for each event: `added`,
+// `refused` with the number, or the nine numbers of a block given out; then the number of blocks held,
+// the plan, and the patterns of the host's point. Orders with no whole limits, or limits or steps that do
+// not pass, get the one line `refused` with number and place 0. Orders that end inside an event get such
+// a line in that event's place, with its place counted from 1, and then the three closing lines.
+use arguments::Order;
+use arguments::STEPS;
+use arguments::read_order;
+use display::Checked;
+use display::refusal_number;
+use machine::Limits;
+use order_text::EVENT_BYTES;
+use order_text::EVENTS;
+use outputs::say;
+use outputs::say_cut;
+use outputs::say_error;
+use outputs::say_refused;
+use planner::NUMBERS;
+use replay_text::TEXT;
+use streams::Input;
+use streams::cut_at;
+use streams::read_input;
+use tape::LIMITS_BYTES;
+use tape::LimitsRead;
+
+// Bytes of a chunk: as many events as are run at a time.
+const CHUNK: usize = EVENT_BYTES * EVENTS;
+// Reading ends at this many events, which no input has.
+const MOST_EVENTS: u64 = 18_446_744_073_709_551_000;
+
+// How running all events ended.
+enum Ended {
+    // the place from 1 of the event that the input ends inside; 0 where it ends with a whole event
+    At(u64),
+    // standard output did not take the lines
+    Unwritten,
+    // standard input could not be read to its end
+    Unread,
+}
+
+// Runs the events of a chunk and writes their lines. Returns whether they were taken.
+fn run_chunk(
+    bytes: &[u8],
+    memory: &mut [u64; NUMBERS],
+    host: &mut [u64; host::NUMBERS],
+    text: &mut [u8; TEXT],
+) -> bool {
+    let end = order_text::run_chunk(bytes, memory, host, text);
+    say(end, text)
+}
+
+// Runs all events of the input, as long as it can be read and their lines are taken.
+fn run_events(
+    memory: &mut [u64; NUMBERS],
+    host: &mut [u64; host::NUMBERS],
+    text: &mut [u8; TEXT],
+) -> Ended {
+    let mut chunk = [0u8; CHUNK];
+    let mut events: u64 = 0;
+    while events < MOST_EVENTS {
+        let Input::Bytes(got) = read_input(&mut chunk) else {
+            return Ended::Unread;
+        };
+        if !run_chunk(&chunk[..got], memory, host, text) {
+            return Ended::Unwritten;
+        }
+        if got < CHUNK {
+            return Ended::At(cut_at(EVENT_BYTES, events, got));
+        }
+        events += EVENTS as u64;
+    }
+    Ended::At(0)
+}
+
+// Says that standard output did not take a text.
+fn say_unwritten() {
+    say_error(b"planorders: standard output did not take all lines\n");
+}
+
+// Says that standard input was not read to its end.
+fn say_unread() {
+    say_error(b"planorders: standard input could not be read to its end\n");
+}
+
+// Writes the line of an event that the input ends inside, where there is one, and the closing lines.
+// Returns whether they were taken.
+fn finish(
+    place: u64,
+    memory: &[u64; NUMBERS],
+    host: &[u64; host::NUMBERS],
+    text: &mut [u8; TEXT],
+) -> bool {
+    if !say_cut(place, text) {
+        return false;
+    }
+    let end = order_text::close(memory, host, text);
+    say(end, text)
+}
+
+// Runs the events behind the limits from a fresh host, and closes.
+fn run_to_end(memory: &mut [u64; NUMBERS], text: &mut [u8; TEXT]) {
+    let mut host = [0u64; host::NUMBERS];
+    host::fresh(&mut host);
+    match run_events(memory, &mut host, text) {
+        Ended::At(place) => {
+            if !finish(place, memory, &host, text) {
+                say_unwritten();
+            }
+        }
+        Ended::Unwritten => say_unwritten(),
+        Ended::Unread => say_unread(),
+    }
+}
+
+// Writes the one line of limits or steps that are refused.
+fn refuse(number: u64, text: &mut [u8; TEXT]) {
+    if !say_refused(number, 0, text) {
+        say_unwritten();
+    }
+}
+
+// Runs the events of a planner with these limits and loaded steps, or says why there is none.
+fn carry_out(l: Limits, steps: &[u8], text: &mut [u8; TEXT]) {
+    let mut memory = [0u64; NUMBERS];
+    match planner::fresh(&mut memory, l, steps) {
+        Checked::Refused(why) => refuse(refusal_number(why), text),
+        Checked::Passed => run_to_end(&mut memory, text),
+    }
+}
+
+// What the bytes of the limits say decides, then the steps.
+fn start(head: &[u8], steps: &[u8], text: &mut [u8; TEXT]) {
+    match tape::limits::read_limits(head) {
+        LimitsRead::Read(l) => carry_out(l, steps, text),
+        LimitsRead::Refused(why) => refuse(refusal_number(why), text),
+    }
+}
+
+// Runs the orders and takes of standard input with loaded steps.
+fn run_input(steps: &[u8]) {
+    let mut text = io::large_buffer();
+    let mut head = [0u8; LIMITS_BYTES];
+    match read_input(&mut head) {
+        Input::Bytes(got) => start(&head[..got], steps, &mut text),
+        Input::Failed => say_unread(),
+    }
+}
+
+fn main() {
+    let mut steps = [0u8; STEPS];
+    let order = read_order(
+        b"planorders",
+        b"usage: planorders [--steps FILE] < orders\n\
+        Runs orders and takes: `added`, `refused N`, or the block as planlist lists it;\n\
+        then `held N`, `plan` and its numbers, and `point` and the bits of X, Y and Z.\n\
+        Refused limits or steps give `refused N at 0`; a cut event K, `refused 9 at K`.\n\
+        FILE: the owner's 8 torque percentages, a byte each; if none or empty, built-in.\n",
+        &mut steps,
+    );
+    match order {
+        Order::Work(n) => run_input(&steps[..n]),
+        Order::Done => return,
+    }
+}

@@ -1,2 +1,0 @@
--- Where reading a trace chunk by chunk ends.
-pub mod Places
