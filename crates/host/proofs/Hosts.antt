@@ -1,13 +1,14 @@
 -- The numbers that keep a host: whatever they are the point is within 32 bits, and a host behind an accepted order is read back from them. From
 -- the laws of two's complement.
 use mathlib.Core.Path.{_≡_, refl, sym, ap, _∙_}
+use mathlib.Core.Bool.{true}
 use Prim.Native.Nat.{ℕ, suc, _+_, _-_, _%_, _^_, _≤_, _<_}
 use native.Mathlib.Nat.{mod-eq-of-lt}
 use native.Mathlib.Decide.{decLt}
 use native.Mathlib.Omega.{arith}
 use borrow.Author.Tests.{lt-ltb, le-ltb}
 use lib.Dec.{lit<}
-use lib.Ieee.{binary64, ofInt}
+use lib.Ieee.{binary64, fin, ofInt, toSigned}
 use lib.IntN.{ℤ, pos, negsuc, natAbs, _-ℤ_}
 use lib.Signed.{mag}
 use Rattle.arith.proofs.SignedLaws.{mag-le, natAbs-minus, readBack, small-back}
@@ -18,6 +19,7 @@ use Rattle.line.specs.Blocks.{addRefusal}
 use Rattle.machine.specs.Checks.{blockRefusal}
 use Rattle.machine.proofs.Bounds.{in-range}
 use Rattle.doubles.specs.Readings.{mostRead}
+use Rattle.doubles.proofs.Positions.{position-exact, position-not-minus-zero}
 use Rattle.host.specs.Fields.{Read, valueOf}
 use Rattle.host.specs.State.{Host, freshHost, hostBits, coordinateOf, hostOf, hostNumbers, hostBehind, blockOf}
 use Rattle.host.specs.declared.orders.Readings.{Readings}
@@ -42,7 +44,14 @@ coordinate-small n = go (signedOf hostBits n) (signed-range hostBits n (lit< tt)
     go (pos k) h = omega arith
     go (negsuc k) h = omega arith
 
--- It is a double with nothing lost,
+-- The double of it, which `position` gives, is exactly that whole number, and never -0.0.
+pub point-exact : (n : ℕ) → toSigned 63 (ofInt binary64 (coordinateOf n)) ≡ coordinateOf n
+point-exact n = position-exact (coordinateOf n) (omega (arith, coordinate-small n))
+
+pub point-not-minus-zero : (n : ℕ) → ofInt binary64 (coordinateOf n) ≡ fin true 0 (pos 0) → ⊥
+point-not-minus-zero n = position-not-minus-zero (coordinateOf n) (omega (arith, coordinate-small n))
+
+-- The machine works it out with nothing lost,
 module _ (n : ℕ) {k : ℤ} (kept : k ≡ coordinateOf n) where
   kept-back : readBack k ≡ coordinateOf n
   kept-back = ap readBack kept ∙ small-back (coordinateOf n) (omega (arith, coordinate-small n))
