@@ -82,9 +82,9 @@ pub fn report_text() -> bool {
     agree
 }
 
-/// Prints what planorders takes for each event, an order or a take, of the mould's
-/// first 2,048 orders, beyond what it takes for no event. False where its text is not
-/// the reference's.
+/// Prints what planorders takes for each event, an order or a take, of the
+/// mould's first 2,048 orders, beyond what it takes for no event. False where
+/// its text is not the reference's.
 pub fn report_orders() -> bool {
     let tool = Tool {
         program: planorders(),

@@ -1,6 +1,6 @@
-//! Prints time and instructions of the proved planner, root, reading of a text and
-//! orders beside those of the reference, and what planlist, ngctape and planorders
-//! take. Fails where the two differ.
+//! Prints time and instructions of the proved planner, root, reading of a text
+//! and orders beside those of the reference, and what planlist, ngctape and
+//! planorders take. Fails where the two differ.
 
 mod callgrind;
 mod list;
@@ -101,8 +101,8 @@ fn table() -> ExitCode {
     }
 }
 
-/// What a block of a work takes on a path by each side: instructions and ns; and
-/// the sum of what was found.
+/// What a block of a work takes on a path by each side: instructions and ns;
+/// and the sum of what was found.
 struct Measured {
     counts: [Option<f64>; 2],
     times: [f64; 2],
@@ -149,9 +149,9 @@ fn rows(works: &[(&str, Work)]) -> bool {
     agree
 }
 
-/// Prints what a take and a plain add of each block take on the mould, beside that a
-/// take and an order of the same block, and by how much the order is more. False
-/// where the exits are not the same.
+/// Prints what a take and a plain add of each block take on the mould, beside
+/// that a take and an order of the same block, and by how much the order is
+/// more. False where the exits are not the same.
 fn order_rows() -> bool {
     let [add, order] = [ADD, ORDER].map(|work| Measured::of(work, PATHS[0]));
     let agree = [add.print("add, mould"), order.print("order, mould")];

@@ -1,5 +1,5 @@
-//! The orders that a host gives for a path: feeds to the ends of its blocks, in mm,
-//! under a work offset.
+//! The orders that a host gives for a path: feeds to the ends of its blocks, in
+//! mm, under a work offset.
 
 use reference::generate::machine_m;
 use reference::line::PLACES;
@@ -23,8 +23,8 @@ pub fn orders_of(path: Path, count: usize) -> Vec<Event> {
     path.blocks(count).into_iter().map(order).collect()
 }
 
-/// The events of a path's first 2,048 blocks on machine M, in bytes: from the 65th
-/// order on a take comes before each. Gives their number with them.
+/// The events of a path's first 2,048 blocks on machine M, in bytes: from the
+/// 65th order on a take comes before each. Gives their number with them.
 pub fn events_of(path: Path) -> (Vec<u8>, usize) {
     let mut events = Vec::new();
     for (held, order) in orders_of(path, MOST_BLOCKS).into_iter().enumerate() {
@@ -43,8 +43,8 @@ mod tests {
     use reference::incremental::Planner;
     use reference::line::LookAhead;
 
-    /// The blocks that the orders add are the path's, but for their marks, which are
-    /// the orders' places from 1.
+    /// The blocks that the orders add are the path's, but for their marks,
+    /// which are the orders' places from 1.
     #[test]
     fn the_orders_add_the_path_s_blocks() {
         for path in [Path::Mould, Path::Straight] {

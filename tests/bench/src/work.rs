@@ -39,8 +39,8 @@ pub enum Work {
     Root,
     /// The records of texts of 2,048 lines, each with a block.
     Text,
-    /// One take and one order, a feed to the block's end, for each block, with 64
-    /// held.
+    /// One take and one order, a feed to the block's end, for each block, with
+    /// 64 held.
     Order,
 }
 

@@ -1,9 +1,9 @@
 //! A host's four numbers by the promise of its orders: what each answers and
 //! leaves in them, whatever they are.
 //!
-//! It follows crates/host/specs/State.antt (what the numbers keep) and Calls.antt
-//! (what an order leaves), and has the definitions' names. How an order's doubles
-//! are read and what its block is says the reference's `host`.
+//! It follows crates/host/specs/State.antt (what the numbers keep) and
+//! Calls.antt (what an order leaves), and has the definitions' names. How an
+//! order's doubles are read and what its block is says the reference's `host`.
 
 use reference::generate::{decimal, event};
 use reference::host::{self, Order, Point};
@@ -143,8 +143,8 @@ fn with_noise(rng: &mut Rng, low: u64) -> u64 {
     }
 }
 
-/// An order near a point in µm: about as far as a move may be, a µm or none from
-/// it, under an offset of its own or none; the rest of it of any class.
+/// An order near a point in µm: about as far as a move may be, a µm or none
+/// from it, under an offset of its own or none; the rest of it of any class.
 pub fn order_near(rng: &mut Rng, point: [i64; 3]) -> Event {
     let longest = rng.pick(&[0, 1, 3, 1_000, 1_000_001]);
     let offset = point.map(|_| rng.pick(&[0, 0, 1, -3]) * 10_000_000);

@@ -1,10 +1,10 @@
-//! What the programs do with arguments: planlist, planreplay and planorders have
-//! the options `--help` and `--steps FILE`, in any order and each at most once, and
-//! ngctape needs the name of one file of limits, with `--help` before it or not. Whatever
-//! else is there, and a file that cannot be opened or read, they tell in one line
-//! on standard error, and read and write nothing. What steps and limits do is
-//! not tested here: the files of steps are empty, those of limits machine M's, or
-//! they cannot be had.
+//! What the programs do with arguments: planlist, planreplay and planorders
+//! have the options `--help` and `--steps FILE`, in any order and each at most
+//! once, and ngctape needs the name of one file of limits, with `--help` before
+//! it or not. Whatever else is there, and a file that cannot be opened or read,
+//! they tell in one line on standard error, and read and write nothing. What
+//! steps and limits do is not tested here: the files of steps are empty, those
+//! of limits machine M's, or they cannot be had.
 
 use std::ffi::OsStr;
 use std::fs::{self, File, Permissions};

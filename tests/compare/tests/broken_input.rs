@@ -1,7 +1,7 @@
 //! An input that cannot be read to its end is told on standard error, wherever
 //! its reads begin to fail: planlist and ngctape then write nothing, planreplay
-//! and planorders only the lines of the chunks of calls or events that they have
-//! read whole.
+//! and planorders only the lines of the chunks of calls or events that they
+//! have read whole.
 
 use std::ffi::{c_char, c_int, CStr, OsStr};
 use std::fs::{self, File, OpenOptions};

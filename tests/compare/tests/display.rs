@@ -462,13 +462,13 @@ fn long_texts_give_their_numbers() {
 const NAN: f64 = f64::NAN;
 const INF: f64 = f64::INFINITY;
 
-/// Fields of an order that passes, X, Y, Z, speed, radius: a rapid has the first
-/// three of them, a feed four, a curve chord all.
+/// Fields of an order that passes, X, Y, Z, speed, radius: a rapid has the
+/// first three of them, a feed four, a curve chord all.
 const ORDER: [f64; 5] = [1.0, 2.0, 3.0, 20.0, 1.5];
 const SORTS: [usize; 3] = [3, 4, 5];
 
-/// Values of a coordinate, of a speed and of a radius, each alone in an order, with
-/// the number that the order gives.
+/// Values of a coordinate, of a speed and of a radius, each alone in an order,
+/// with the number that the order gives.
 const COORDINATES: &[(f64, u64)] = &[
     (0.0, 0),
     (-0.0, 0),
@@ -567,8 +567,8 @@ fn each_field_of_an_order_gives_its_numbers() {
     report(count, "numbers of the fields of orders");
 }
 
-/// 15 or 16 of the first field at fault, whatever the later ones are, before any
-/// number of an add.
+/// 15 or 16 of the first field at fault, whatever the later ones are, before
+/// any number of an add.
 #[test]
 fn the_first_field_at_fault_decides() {
     let faults = [(NAN, 15), (INF, 15), (-INF, 15), (1e7, 16), (-1e7, 16)];
@@ -594,8 +594,8 @@ fn the_first_field_at_fault_decides() {
     report(count, "orders with two fields at fault");
 }
 
-/// 2 to 7 of the block in their order, from each sort of order that has them, at a
-/// planner that is full and a host that has no mark left.
+/// 2 to 7 of the block in their order, from each sort of order that has them,
+/// at a planner that is full and a host that has no mark left.
 #[test]
 fn orders_give_the_numbers_of_adds() {
     let long = 1_000.001;

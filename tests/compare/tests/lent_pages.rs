@@ -301,8 +301,9 @@ fn steps_of_each_length_stay_in_their_bytes() {
     report(2 * 301 * 2 * 3, "calls with 0 to 300 bytes of steps");
 }
 
-/// Orders of every sort with takes between, accepted and refused, from a fresh host
-/// on used numbers, with its point after each; then points of hosts of any numbers.
+/// Orders of every sort with takes between, accepted and refused, from a fresh
+/// host on used numbers, with its point after each; then points of hosts of any
+/// numbers.
 #[test]
 fn orders_stay_in_their_memory_and_points() {
     at_both_sides(|seed, rng, side| {

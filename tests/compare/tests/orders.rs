@@ -20,7 +20,8 @@ use reference::orders::Event;
 use reference::refusal::Refusal;
 use reference::rng::Rng;
 
-/// The greatest mark, and with it the most orders that a host can have accepted.
+/// The greatest mark, and with it the most orders that a host can have
+/// accepted.
 const MOST_MARK: u64 = 2_097_151;
 
 /// A call on a planner and a host.
@@ -118,8 +119,8 @@ impl Both {
         }
     }
 
-    /// Runs a call on both: the answers are the same, and afterwards all numbers
-    /// of the memory and of the host, and the doubles of its point.
+    /// Runs a call on both: the answers are the same, and afterwards all
+    /// numbers of the memory and of the host, and the doubles of its point.
     fn run(&mut self, call: &Call) -> Answer {
         let before = self.promised.clone();
         let input = || format!("{call:x?} on {before:?}");
@@ -160,8 +161,8 @@ fn add_up(all: &mut Met, met: Met) {
         .for_each(|(kind, times)| *all.entry(kind).or_default() += times);
 }
 
-/// Sees that each of the numbers was met so often by each sort of order that can
-/// have it.
+/// Sees that each of the numbers was met so often by each sort of order that
+/// can have it.
 fn confirm_met(met: &Met, numbers: &[u64], least: usize) {
     for number in numbers {
         for sort in ["rapid", "feed", "curve chord"] {
@@ -325,8 +326,8 @@ fn near_its_end(rng: &mut Rng, event: &Event) -> [u64; HOST] {
     [x, y, z, rng.below(1_000)]
 }
 
-/// The host's point of any four numbers: the 32 low bits of three of them by two's
-/// complement, and never −0.0.
+/// The host's point of any four numbers: the 32 low bits of three of them by
+/// two's complement, and never −0.0.
 #[test]
 fn every_point_is_given_back_as_doubles() {
     let ends = [
@@ -370,8 +371,8 @@ fn a_fresh_host_has_four_zeros() {
     report(2_000, "fresh hosts on used memory");
 }
 
-/// Bits above the 32 that count play no part, and are gone after an order that is
-/// accepted; a refused one leaves them.
+/// Bits above the 32 that count play no part, and are gone after an order that
+/// is accepted; a refused one leaves them.
 #[test]
 fn bits_above_the_low_ones_play_no_part() {
     let above = |number: u64| number | 0xdead_beef << 32;
@@ -441,8 +442,8 @@ fn there_and_taken(memory: &mut [u64], host: &mut [u64], place: u64) -> u64 {
     numbers[2]
 }
 
-/// 2,097,151 orders are accepted, each with a take after it; each further one is
-/// refused by 6, or by what comes before it, and changes nothing.
+/// 2,097,151 orders are accepted, each with a take after it; each further one
+/// is refused by 6, or by what comes before it, and changes nothing.
 #[test]
 fn marks_run_out() {
     let (mut memory, mut host) = ([0; NUMBERS], [77; HOST]);

@@ -1,5 +1,5 @@
-//! The program planorders writes what the reference writes: a line for each event
-//! of a host, the number held, the plan and the host's point.
+//! The program planorders writes what the reference writes: a line for each
+//! event of a host, the number held, the plan and the host's point.
 //!
 //! Its arguments are in arguments.rs, inputs that break off in broken_input.rs.
 
@@ -71,6 +71,26 @@ fn planorders_answers_the_examples() {
     report(count as usize, "examples of orders");
 }
 
+/// Feeds to two points at a right angle, the second once more, a rapid to what
+/// is no number, and a take.
+#[test]
+fn worked_orders_have_these_lines() {
+    let text = compare(0, &pack_orders(&machine_m(), &worked()[..5]), &[]);
+    let millimetre = 1_000_f64.to_bits();
+    let expected = [
+        "added",
+        "added",
+        "refused 2",
+        "refused 15",
+        "1 1000 200000 0 201000000 2000000 502 0 498",
+        "held 1",
+        "plan 2000000 0",
+        &format!("point {millimetre} {millimetre} 0"),
+    ];
+    assert_eq!(text.lines().collect::<Vec<_>>(), expected);
+    report(5, "worked events");
+}
+
 /// A small input cut at every byte: inside the limits, at their end, and inside
 /// each field of an event.
 #[test]
@@ -82,8 +102,8 @@ fn planorders_answers_an_input_cut_at_every_byte() {
     report(whole.len() + 1, "inputs cut at every byte");
 }
 
-/// Limits of every length with limits and steps that do not pass: 9, then 1, then
-/// 14, and nothing of the events.
+/// Limits of every length with limits and steps that do not pass: 9, then 1,
+/// then 14, and nothing of the events.
 #[test]
 fn refused_limits_and_steps_come_first() {
     let mut count = 0;
@@ -106,8 +126,9 @@ fn refused_limits_and_steps_come_first() {
     report(count, "limits of every length");
 }
 
-/// Inputs that end at the borders of the chunks, 300 events each, that planorders
-/// reads, and inputs of no event; then 0, 1 and 67 bytes of one that is cut short.
+/// Inputs that end at the borders of the chunks, 300 events each, that
+/// planorders reads, and inputs of no event; then 0, 1 and 67 bytes of one that
+/// is cut short.
 #[test]
 fn planorders_answers_at_the_borders_of_its_chunks() {
     let mut rng = Rng::new(4);
@@ -155,8 +176,8 @@ fn planorders_takes_input_in_pieces() {
     report(pieces.len() + 4, "inputs in pieces");
 }
 
-/// Words that name a sort of event: each of the four, and many with a single byte
-/// that is not 0, which are curve chords.
+/// Words that name a sort of event: each of the four, and many with a single
+/// byte that is not 0, which are curve chords.
 fn kinds() -> Vec<u32> {
     let mut kinds = vec![
         TAKE,
@@ -172,8 +193,8 @@ fn kinds() -> Vec<u32> {
     kinds
 }
 
-/// Every kind of event, and doubles of any class where it uses none: these play no
-/// part.
+/// Every kind of event, and doubles of any class where it uses none: these play
+/// no part.
 #[test]
 fn unused_fields_play_no_part() {
     let mut count = 0;

@@ -1,9 +1,10 @@
-//! The doubles of orders one by one: what the library reads in each field, against
-//! the reference's reading of the same bits.
+//! The doubles of orders one by one: what the library reads in each field,
+//! against the reference's reading of the same bits.
 //!
-//! A coordinate goes with a rapid from a host that is one µm beside what should be
-//! read, so that every reading within 1,000,000,000 is a legal move; the host's
-//! point then tells what was read. Speed and radius come back with the block.
+//! A coordinate goes with a rapid from a host that is one µm beside what should
+//! be read, so that every reading within 1,000,000,000 is a legal move; the
+//! host's point then tells what was read. Speed and radius come back with the
+//! block.
 
 use compare::library::{HOST, NUMBERS, POINT};
 use compare::proved::{Host, Planner};
@@ -34,8 +35,8 @@ const EDGES: [u64; 9] = [
 ];
 
 /// Doubles about which all are read: the ends of what is read, of moves, speeds
-/// and radii, powers of two above and below them, and where a double's last digit
-/// is a whole number.
+/// and radii, powers of two above and below them, and where a double's last
+/// digit is a whole number.
 const AROUND: [f64; 26] = [
     0.000_5,
     0.001,
@@ -82,8 +83,8 @@ impl Fresh {
         Fresh { memory }
     }
 
-    /// The point after a rapid from another that differs on one axis, by the bits
-    /// of that axis's double.
+    /// The point after a rapid from another that differs on one axis, by the
+    /// bits of that axis's double.
     fn coordinate(&self, axis: usize, [target, offset]: [u64; 2], from: i64) -> Read {
         let mut numbers = [0; HOST];
         numbers[axis] = u64::from(from as u32);
@@ -125,8 +126,9 @@ fn expected_coordinate(reading: Reading) -> Read {
     }
 }
 
-/// What the reading of a speed or a radius must lead to: the whole number, where
-/// it is from `least` to `most`; where it is not, the number of the add's refusal.
+/// What the reading of a speed or a radius must lead to: the whole number,
+/// where it is from `least` to `most`; where it is not, the number of the add's
+/// refusal.
 fn expected_amount(reading: Reading, [least, most]: [i64; 2], refusal: u64) -> Read {
     match reading {
         Reading::NotFinite => Err(15),
@@ -199,8 +201,8 @@ fn every_exponent_is_read_alike() {
     compare_all(&with_signs(sizes), "doubles of every exponent");
 }
 
-/// The doubles nearest to odd numbers of halves of a µm, up to ten mm, and two on
-/// either side of each.
+/// The doubles nearest to odd numbers of halves of a µm, up to ten mm, and two
+/// on either side of each.
 #[test]
 fn doubles_beside_halves_are_read_alike() {
     let halves = (0..10_000).map(|k| f64::from(2 * k + 1) / 2_000.0);
@@ -228,8 +230,8 @@ fn doubles_about_the_ends_are_read_alike() {
     compare_all(&with_signs(sizes), "doubles about the ends");
 }
 
-/// Doubles of every class, and such as have all digits at random: of any exponent,
-/// or of one that is read.
+/// Doubles of every class, and such as have all digits at random: of any
+/// exponent, or of one that is read.
 #[test]
 fn drawn_doubles_are_read_alike() {
     let mut rng = Rng::new(compare::first_seed());
@@ -303,9 +305,9 @@ fn offsets_of_each_class_are_subtracted_alike() {
     report(count, "targets and offsets of each class");
 }
 
-/// A target, and an offset so small that their difference is rounded to the target
-/// or to a double beside it: the exact difference would be read otherwise where the
-/// target is an exact half of a µm.
+/// A target, and an offset so small that their difference is rounded to the
+/// target or to a double beside it: the exact difference would be read
+/// otherwise where the target is an exact half of a µm.
 fn half_and_less(rng: &mut Rng) -> [u64; 2] {
     let half = exact_half(rng);
     let exponent = half >> 52 & 0x7ff;

@@ -716,8 +716,8 @@ fn every_edge_speed_has_the_acceleration_of_its_step() {
     report(count, "edge speeds under loaded steps");
 }
 
-/// Paths at edge speeds under loaded steps, in planlist and planreplay; without the
-/// steps most of the texts are others.
+/// Paths at edge speeds under loaded steps, in planlist and planreplay; without
+/// the steps most of the texts are others.
 #[test]
 fn the_programs_have_the_accelerations_of_edge_speeds() {
     let mut telling = 0;

@@ -1,7 +1,7 @@
 //! A host on lent memory, and its orders on a planner's.
 //!
-//! Doubles are lent by their bits, so that those of what is no number are seen to
-//! stay as well.
+//! Doubles are lent by their bits, so that those of what is no number are seen
+//! to stay as well.
 
 use reference::host::{Order, Point};
 use reference::refusal::Refusal;
@@ -80,8 +80,8 @@ fn target_of(order: &Order) -> &Point {
     }
 }
 
-/// Calls the function of an order's sort with the target and the offset that are
-/// lent.
+/// Calls the function of an order's sort with the target and the offset that
+/// are lent.
 unsafe fn carry_out(
     order: &Order,
     memory: *mut u64,
