@@ -10,11 +10,12 @@
  * tick in microseconds. Every quantity is a whole number, but for the doubles of a host's orders, in
  * mm and mm/s.
  *
- * Answers: every function but fullerecru_told, fullerecru_host_fresh and fullerecru_position returns 0
- * where the call is accepted, else the number of its refusal (see below). Where several refusals hold, the one given is the first in the order
- * that stands at the function. A refused call changes nothing that was lent, but for the place that
- * tells where a tape or a text is at fault (fullerecru_plan_tape, fullerecru_text). Any numbers and
- * any bytes are answered: the ranges below are checked, not required.
+ * Answers: every function but fullerecru_told, fullerecru_host_fresh and fullerecru_position returns
+ * 0 where the call is accepted, else the number of its refusal (see below). Where several refusals
+ * hold, the one given is the first in the order that stands at the function. A refused call changes
+ * nothing that was lent, but for the place that tells where a tape or a text is at fault
+ * (fullerecru_plan_tape, fullerecru_text). Any numbers, doubles and bytes are answered: the ranges
+ * below are checked, not required.
  *
  * What the model leaves open: the acceleration limits hold along each block; at a junction the
  * velocity may step by as much as the corner jump J, and short chords make many such steps. On a
@@ -24,12 +25,13 @@
  * tick. Between moves of a few µm a corner may have no cap, since lengths are rounded down.
  *
  * Lent memory: a pointer must not be null and must be aligned as its type asks (8 bytes for the
- * lists of numbers and doubles, 1 for bytes). Behind it must be as many items as the array's size or the
- * count beside it says. The lists lent to one call must not overlap where one of them is written.
+ * lists of numbers and doubles, 1 for bytes). Behind it must be as many items as the array's size
+ * or the count beside it says. The lists lent to one call must not overlap where one of them is
+ * written.
  *
  * Threads: there is no shared state. Calls may run at the same time if they are lent different
- * memory; a planner's memory is used by one call at a time (several fullerecru_told and
- * fullerecru_shown may read it together).
+ * memory; a planner's memory and a host's are used by one call at a time (several fullerecru_told,
+ * fullerecru_shown and fullerecru_position may read them together).
  */
 #ifndef FULLERECRU_H
 #define FULLERECRU_H
@@ -253,10 +255,12 @@ uint64_t fullerecru_replay(const uint8_t *trace, size_t count, const uint8_t *st
 uint64_t fullerecru_text(const uint8_t *text, size_t count, uint8_t *records, size_t size,
                          uint64_t blocks[1], uint64_t place[1]);
 
-/* A host gives orders in doubles, each of which becomes a block added to a planner. What it keeps is
- * lent: four numbers, whose content is the host's; with the planner's memory it is lent to each
- * order. Any numbers are answered as some host's. Makes a fresh host: its point is zero, and no order
- * was accepted. */
+/* A host gives orders in doubles, each of which becomes a block added to a planner. It keeps the last
+ * accepted order's rounded point and how many orders were accepted, in four numbers that are lent to
+ * each order beside the planner's memory and that nobody else writes; any numbers are answered as
+ * some host's. Only an order that is accepted moves it; fullerecru_add and fullerecru_take do not.
+ *
+ * Makes a fresh host: its point is zero, and no order was accepted. */
 void fullerecru_host_fresh(uint64_t host[FULLERECRU_HOST]);
 
 /* The three sorts of order: rapid to a target, which has feed 1,000,000 µm/s; feed to a target with a
@@ -268,7 +272,8 @@ void fullerecru_host_fresh(uint64_t host[FULLERECRU_HOST]);
  * from zero, to this one's; its mark is the order's place from 1, refused orders not counted.
  *
  * Refuses field by field, X, Y, Z, speed, radius, in each by 15, then 16; then by 2, 3, 4, 5, 6, 7 as
- * fullerecru_add does. Accepted, it writes memory and host. */
+ * fullerecru_add does. After 2,097,151 accepted orders there is no mark left, and 6 comes until the
+ * host is made fresh. Accepted, it writes memory and host. */
 uint64_t fullerecru_rapid(uint64_t memory[FULLERECRU_NUMBERS], uint64_t host[FULLERECRU_HOST],
                           const double target[FULLERECRU_POINT],
                           const double offset[FULLERECRU_POINT]);

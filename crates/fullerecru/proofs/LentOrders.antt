@@ -2,20 +2,17 @@
 use mathlib.Core.List.{List}
 use mathlib.Core.Path.{_≡_, refl, sym, ap, subst, _∙_}
 use Prim.Native.Nat.{ℕ}
-use Rattle.display.specs.Display.{refusalNumber}
-use Rattle.display.proofs.Answers.{refusal-above}
 use Rattle.line.specs.Answers.{Answer, answerBy, answerNumber, addMeans}
 use Rattle.line.specs.declared.AddAnswer.{AddAnswer}
-use Rattle.line.specs.declared.AddAnswer.the-variants.{Added, Refused}
+use Rattle.line.proofs.Answers.{add-back}
 use Rattle.host.specs.Calls.{Ordered}
 use Rattle.host.specs.declared.orders.Order.{Order}
 use Rattle.host.specs.declared.orders.Point.{Point}
-use Rattle.host.proofs.Outcomes.{refused-by}
+use Rattle.fullerecru.specs.Orders.{pointFrom, coordinatesOf}
 
--- An add's answer is that of its number.
-add-back : (a : AddAnswer) → addMeans a ≡ answerBy (answerNumber (addMeans a))
-add-back Added = refl
-add-back (Refused why) = sym (refused-by (refusalNumber why) (refusal-above why))
+-- A point that is stored is read back.
+pub point-back : (p : Point) → pointFrom (coordinatesOf p) ≡ p
+point-back p = refl
 
 -- An order of the points that were read, by its number.
 pub ordered-by : {m h m′ h′ : List ℕ} {o order : Order} {p offset : Point} (a : AddAnswer) {n : ℕ} → Ordered m h o p (addMeans a) m′ h′ → o ≡ order → p ≡ offset

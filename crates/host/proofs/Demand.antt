@@ -11,6 +11,7 @@ use Rattle.machine.specs.declared.Limits.{Limits}
 use Rattle.line.specs.Answers.{Answer, answerBy}
 use Rattle.line.specs.Blocks.{Line, freshLine, add, addRefusal, lineAnswer, lineAfterAll}
 use Rattle.line.specs.Chains.{none, next}
+use Rattle.line.proofs.Answers.{refused-by}
 use Rattle.line.proofs.Chains.{chain-both}
 use Rattle.planner.specs.Calls.{Called, CalledAll, MemoryHolds, Freshened, Told, Showed}
 use Rattle.planner.proofs.Demand.{demand3}
@@ -25,7 +26,6 @@ use Rattle.host.specs.declared.orders.Order.{Order}
 use Rattle.host.specs.declared.orders.Point.{Point}
 use Rattle.host.proofs.Fields.{fields-read}
 use Rattle.host.proofs.Hosts.{host-back, fresh-back}
-use Rattle.host.proofs.Outcomes.{refused-by}
 
 -- What one event does, of a host and a line that the numbers hold: it is answered as they say, is a call of the planner or none, and leaves
 -- numbers that hold the next host and line.

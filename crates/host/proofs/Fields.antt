@@ -14,7 +14,7 @@ use Rattle.doubles.specs.Readings.{mostRead, readingOf}
 use Rattle.doubles.specs.declared.Reading.{Reading}
 use Rattle.doubles.specs.declared.Reading.the-variants.{NotFinite, Beyond, At}
 use Rattle.doubles.proofs.Meaning.{reading-within}
-use Rattle.host.specs.Fields.{amountFault, readingsOf, valueOf, Read}
+use Rattle.host.specs.Fields.{amountFault, readingsOf, valueOf, Within}
 use Rattle.host.specs.declared.orders.Order.{Order}
 use Rattle.host.specs.declared.orders.Point.{Point}
 
@@ -51,6 +51,6 @@ value-within x = go (readingOf x) refl
     go Beyond e = omega arith
     go (At z) e = reading-within x z e
 
-pub fields-read : (o : Order) (offset : Point) → Read (readingsOf o offset)
+pub fields-read : (o : Order) (offset : Point) → Within (readingsOf o offset)
 unfolding readingsOf
 fields-read o offset = record { x = value-within _; y = value-within _; z = value-within _ }

@@ -20,7 +20,7 @@ use Rattle.machine.specs.Checks.{blockRefusal}
 use Rattle.machine.proofs.Bounds.{in-range}
 use Rattle.doubles.specs.Readings.{mostRead}
 use Rattle.doubles.proofs.Positions.{position-exact, position-not-minus-zero}
-use Rattle.host.specs.Fields.{Read, valueOf}
+use Rattle.host.specs.Fields.{Within, valueOf}
 use Rattle.host.specs.State.{Host, freshHost, hostBits, coordinateOf, hostOf, hostNumbers, hostBehind, blockOf}
 use Rattle.host.specs.declared.orders.Readings.{Readings}
 
@@ -80,7 +80,7 @@ coordinate-back : (z : ℤ) → natAbs z ≤ mostRead → coordinateOf (bitsOf h
 coordinate-back z h = signed-bits hostBits z (lit< tt) (omega (arith, mag-le z))
 
 -- and so is a host behind an order whose block passed: its mark, one more than the orders before it, is far below 2 ^ 32.
-pub host-back : (h : Host) (r : Readings) (held : ℕ) → Read r → addRefusal held (blockOf h r) ≡ 0 → hostOf (hostNumbers (hostBehind h r)) ≡ hostBehind h r
+pub host-back : (h : Host) (r : Readings) (held : ℕ) → Within r → addRefusal held (blockOf h r) ≡ 0 → hostOf (hostNumbers (hostBehind h r)) ≡ hostBehind h r
 host-back h r held within passed =
     let mark = in-range (blockOf h r) (then-zero (blockRefusal (blockOf h r)) passed .0) .mark-below in
     let orders = mod-eq-of-lt {n = h .orders + 1} {m = 2 ^ hostBits} (omega arith) in

@@ -1,13 +1,13 @@
 -- From what an order's fields and its block come to, to the promise of an order. From the definitions.
 use mathlib.Core.List.{List}
 use mathlib.Core.Path.{_≡_, refl, sym, ap, subst, _∙_}
-use Prim.Native.Nat.{ℕ, zero, suc, _<_}
+use Prim.Native.Nat.{ℕ}
 use native.Mathlib.Omega.{arith}
 use Rattle.display.specs.Display.{refusalNumber}
 use Rattle.display.specs.declared.Refusal.{Refusal}
 use Rattle.display.proofs.Answers.{refusal-above}
 use Rattle.machine.specs.declared.Block.{Block}
-use Rattle.line.specs.Answers.{Answer, refused, answerBy}
+use Rattle.line.specs.Answers.{Answer, refused}
 use Rattle.line.specs.Blocks.{add}
 use Rattle.planner.specs.Calls.{Called}
 use Rattle.host.specs.Fields.{readingsOf, orderFault}
@@ -17,15 +17,10 @@ use Rattle.host.specs.declared.orders.Order.{Order}
 use Rattle.host.specs.declared.orders.Point.{Point}
 use Rattle.host.specs.declared.orders.Readings.{Readings}
 
--- A number above 0 refuses.
-pub refused-by : (n : ℕ) → 0 < n → answerBy n ≡ refused n
-refused-by zero h = absurd (omega arith)
-refused-by (suc n) h = refl
-
 -- The add of the block that was made of the readings.
-pub added-by : {m m′ h h′ : List ℕ} {r : Readings} {b : Block} {said : Answer} → b ≡ blockOf (hostOf h) r → Called m (add b) said m′ → h′ ≡ hostAfter said h r
+pub add-promised : {m m′ h h′ : List ℕ} {r : Readings} {b : Block} {said : Answer} → b ≡ blockOf (hostOf h) r → Called m (add b) said m′ → h′ ≡ hostAfter said h r
     → Added m h r said m′ h′
-added-by {m} {m′} {said} e c f = record { called = subst (λ (x : Block). Called m (add x) said m′) e c; host-is = f }
+add-promised {m} {m′} {said} e c f = record { called = subst (λ (x : Block). Called m (add x) said m′) e c; host-is = f }
 
 module _ {m h : List ℕ} {o : Order} {offset : Point} where
   -- A field that is refused decides, and nothing moves.

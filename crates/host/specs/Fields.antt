@@ -75,8 +75,8 @@ valueOf NotFinite = pos 0
 valueOf Beyond = pos 0
 valueOf (At z) = z
 
--- each coordinate is within 1,000,000,000 either way, as those are that are read
-pub record Read (r : Readings) : Type 0 where
+-- each coordinate is within 1,000,000,000 either way, as all are that were read
+pub record Within (r : Readings) : Type 0 where
   pub x : natAbs (valueOf (r .x)) ≤ mostRead
   pub y : natAbs (valueOf (r .y)) ≤ mostRead
   pub z : natAbs (valueOf (r .z)) ≤ mostRead

@@ -9,7 +9,7 @@ ghost use Rattle.doubles.specs.Readings.{mostRead};
 ghost use Rattle.fields.specs.Signed.{bitsOf};
 ghost use Rattle.line.specs.Answers.{addMeans};
 ghost use Rattle.host.specs.Calls.{Added};
-ghost use Rattle.host.specs.Fields.{Read, valueOf};
+ghost use Rattle.host.specs.Fields.{Within, valueOf};
 ghost use Rattle.host.specs.State.{blockOf, coordinateOf, freshHost, hostBehind, hostBits, hostNumbers, hostOf, hostSize, ordersOf};
 use crate::NUMBERS;
 use crate::orders::Readings;
@@ -24,14 +24,14 @@ use machine::blocks::plain_block;
 
 // Bits of each number that count.
 const BITS: usize = 32;
-
+// 2 to that power, and half of it.
 const COUNTED: u64 = 4_294_967_296;
 
 const HALF: u64 = 2_147_483_648;
 
 // A coordinate of the host's point, µm. Shifted by half the range, two's complement is a plain number; the compiler makes one
 // load of it.
-pub(crate) fn coordinate_of(number: u64) -> i64
+fn coordinate_of(number: u64) -> i64
     ensures { λ r. ⌜ r ≡ coordinateOf number ⌝ }
 {
     let shifted = (number % COUNTED + HALF) % COUNTED;
@@ -88,7 +88,7 @@ fn number_for(r: Reading) -> u64
 
 // The block of an order: from the host's point to the order's, with the order's place from 1 as its mark.
 fn block_of(host: &[u64], r: Readings) -> Block
-    requires { ⌜ (length (now host) ≡ hostSize) × Read r ⌝ }
+    requires { ⌜ (length (now host) ≡ hostSize) × Within r ⌝ }
     ensures { λ b. ⌜ b ≡ blockOf (hostOf (now (host .entry))) r ⌝ }
 {
     let x = r.x;
@@ -138,7 +138,7 @@ pub(crate) fn add_read(
     host: &mut [u64; NUMBERS],
     r: Readings,
 ) -> AddAnswer
-    requires { ⌜ Read r ⌝ }
+    requires { ⌜ Within r ⌝ }
     ensures { λ a. ⌜ Added (now (memory .entry)) (now (host .entry)) r (addMeans a) (now (memory .exit)) (now (host .exit)) ⌝ }
 {
     match planner::add(memory, block_of(host, r)) {

@@ -1,4 +1,5 @@
 -- A ring that holds a line answers each call as the line does, and holds the line after it.
+pub mod Answers
 pub mod Chains
 pub mod Spans
 pub mod Places

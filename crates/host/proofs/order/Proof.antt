@@ -2,7 +2,7 @@
 use borrow.Author.Needs.{needs}
 use mathlib.Core.Path.{sym, ap, subst, _∙_}
 use Rattle.display.proofs.Answers.{told-refused, told-passed}
-use Rattle.host.specs.Fields.{Read, fieldFault}
+use Rattle.host.specs.Fields.{Within, fieldFault}
 use Rattle.host.proofs.Fields.{fields-read}
 use Rattle.host.proofs.Outcomes.{field-refused, block-added}
 use Rattle.host.proofs.order.Statement.{statement}
@@ -11,7 +11,7 @@ use Rattle.host.proofs.order.Tie as tie
 add-read-requires : tie.Need-add-read-requires
 add-read-requires c κs =
     let f = c .before .before .before .before .before in
-    subst Read (sym (f .read-fields .ensures)) (fields-read (f .before .args .o) (f .before .args .offset))
+    subst Within (sym (f .read-fields .ensures)) (fields-read (f .before .args .o) (f .before .args .offset))
 
 returns : tie.Need-returns
 returns c =
