@@ -17,6 +17,7 @@ bench:
 	rt staticlib arith_c
 	rt check planlist
 	rt check ngctape
+	rt check planorders
 	tests/bench/run
 
 # make contracts: docs/CONTRACTS.txt, every public function with its contract, written again.

@@ -1,4 +1,4 @@
-//! What planlist and ngctape take, as processes.
+//! What planlist, ngctape and planorders take, as processes.
 
 use std::ffi::OsStr;
 use std::fs::File;
@@ -6,14 +6,17 @@ use std::path::{Path, PathBuf};
 use std::process::Stdio;
 use std::time::Instant;
 
-use compare::programs::{ngctape, planlist, run, start_with, tape_of, OwnFile};
+use compare::programs::{ngctape, planlist, planorders, run, start_with, tape_of, OwnFile};
 use reference::generate::machine_m;
+use reference::incremental::Planner;
 use reference::listing;
 use reference::machine::Block;
+use reference::order_listing::planorders_by;
 use reference::tape::{pack_limits, Tape, MOST_BLOCKS};
 use reference::text;
 
 use crate::callgrind::instructions;
+use crate::orders::events_of;
 use crate::texts::text_of;
 use crate::{line, paths, PATHS};
 
@@ -47,7 +50,7 @@ pub fn report() -> bool {
         rows(
             &format!("planlist, {name}"),
             "µs a tape",
-            [&tool.cost(&tape), &empty],
+            ([&tool.cost(&tape), &empty], MOST_BLOCKS),
         );
         if run(&planlist(), &tape) != listing::planlist(&tape, &[]) {
             eprintln!("planlist, {name}: the listings differ");
@@ -69,7 +72,8 @@ pub fn report_text() -> bool {
     };
     let text = text_of(paths::Path::Mould);
     let empty = tool.cost(b"");
-    rows("ngctape, mould", "µs a text", [&tool.cost(&text), &empty]);
+    let costs = [&tool.cost(&text), &empty];
+    rows("ngctape, mould", "µs a text", (costs, MOST_BLOCKS));
     whole("ngctape, no line", "µs a text", &empty);
     let agree = tape_of(&limits, &text, usize::MAX) == text::ngctape(&limits, &text);
     if !agree {
@@ -78,13 +82,34 @@ pub fn report_text() -> bool {
     agree
 }
 
-/// Prints the share of a record in what a full input takes, and the time that the
-/// whole of it takes.
-fn rows(name: &str, unit: &str, [full, empty]: [&Cost; 2]) {
+/// Prints what planorders takes for each event, an order or a take, of the
+/// mould's first 2,048 orders, beyond what it takes for no event. False where
+/// its text is not the reference's.
+pub fn report_orders() -> bool {
+    let tool = Tool {
+        program: planorders(),
+        words: Vec::new(),
+    };
+    let (events, count) = events_of(paths::Path::Mould);
+    let empty = tool.cost(&pack_limits(&machine_m(), 0));
+    let costs = [&tool.cost(&events), &empty];
+    rows("planorders, mould", "µs an input", (costs, count));
+    whole("planorders, none", "µs an input", &empty);
+    let agree = run(&planorders(), &events) == planorders_by::<Planner>(&events, &[]);
+    if !agree {
+        eprintln!("planorders, mould: the texts differ");
+    }
+    agree
+}
+
+/// Prints the share of a record in what an input of so many takes beyond one of
+/// none, and the time that the whole of it takes.
+fn rows(name: &str, unit: &str, ([full, empty], records): ([&Cost; 2], usize)) {
+    let share = |full: u64, empty: u64| (full as f64 - empty as f64) / records as f64;
     let counts = full.instructions.zip(empty.instructions);
-    let count = counts.map(|(full, empty)| per_record(full, empty));
+    let count = counts.map(|(full, empty)| share(full, empty));
     line(name, "instructions", [count, None]);
-    line("", "ns", [Some(per_record(full.time, empty.time)), None]);
+    line("", "ns", [Some(share(full.time, empty.time)), None]);
     whole("", unit, full);
 }
 
@@ -97,11 +122,6 @@ fn whole(name: &str, unit: &str, cost: &Cost) {
 fn bytes_of(blocks: Vec<Block>) -> Vec<u8> {
     let limits = machine_m();
     Tape { limits, blocks }.pack()
-}
-
-/// Share of a record in the difference of a full input and one without blocks.
-fn per_record(full: u64, empty: u64) -> f64 {
-    (full as f64 - empty as f64) / MOST_BLOCKS as f64
 }
 
 impl Tool {

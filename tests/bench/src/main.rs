@@ -1,9 +1,10 @@
-//! Prints time and instructions of the proved planner, root and reading of a text
-//! beside those of the reference, and what planlist and ngctape take. Fails where
-//! the two differ.
+//! Prints time and instructions of the proved planner, root, reading of a text
+//! and orders beside those of the reference, and what planlist, ngctape and
+//! planorders take. Fails where the two differ.
 
 mod callgrind;
 mod list;
+mod orders;
 mod paths;
 mod texts;
 mod work;
@@ -26,6 +27,9 @@ const WORKS: [(&str, Work); 3] = [
     ("root", Work::Root),
 ];
 const TEXTS: [(&str, Work); 1] = [("text", Work::Text)];
+/// The same blocks added and ordered.
+const ADD: (&str, Work) = WORKS[0];
+const ORDER: (&str, Work) = ("order", Work::Order);
 const PATHS: [(&str, Path); 3] = [
     ("mould", Path::Mould),
     ("straight", Path::Straight),
@@ -46,14 +50,14 @@ fn main() -> ExitCode {
     match arguments.iter().map(String::as_str).collect::<Vec<_>>()[..] {
         [] => table(),
         ["count", work, path, side] => {
-            let works = [&WORKS[..], &TEXTS].concat();
+            let works = [&WORKS[..], &TEXTS, &[ORDER]].concat();
             let (work, side) = (named(&works, work), named(&SIDES, side));
             let mut ready = Ready::new(work, side, named(paths(work), path), work.counted());
             println!("{}", ready.run());
             ExitCode::SUCCESS
         }
         _ => {
-            eprintln!("bench | bench count planner|tape|root|text PATH proved|reference");
+            eprintln!("bench | bench count planner|tape|root|text|order PATH proved|reference");
             ExitCode::FAILURE
         }
     }
@@ -64,7 +68,7 @@ fn paths(work: Work) -> &'static [(&'static str, Path)] {
     match work {
         Work::Planner | Work::Tape => &PATHS,
         Work::Root => &STEPS,
-        Work::Text => &PATHS[..1],
+        Work::Text | Work::Order => &PATHS[..1],
     }
 }
 
@@ -87,38 +91,78 @@ fn table() -> ExitCode {
         list::report(),
         rows(&TEXTS),
         list::report_text(),
+        order_rows(),
+        list::report_orders(),
     ];
-    if agree == [true; 4] {
+    if agree == [true; 6] {
         ExitCode::SUCCESS
     } else {
         ExitCode::FAILURE
     }
 }
 
+/// What a block of a work takes on a path by each side: instructions and ns;
+/// and the sum of what was found.
+struct Measured {
+    counts: [Option<f64>; 2],
+    times: [f64; 2],
+    sums: [u64; 2],
+}
+
+impl Measured {
+    fn of((work, doing): (&str, Work), (path, over): (&str, Path)) -> Measured {
+        let counts = SIDES.map(|(side, by)| count([work, path, side], doing, by));
+        let found = SIDES.map(|(_, side)| time(doing, side, over));
+        Measured {
+            counts,
+            times: found.map(|(time, _)| time),
+            sums: found.map(|(_, sum)| sum),
+        }
+    }
+
+    /// Prints both; false where the two sides found other numbers.
+    fn print(&self, name: &str) -> bool {
+        line(name, "instructions", self.counts);
+        line("", "ns", self.times.map(Some));
+        let [proved, reference] = self.sums;
+        if proved != reference {
+            eprintln!("{name}: the sums of what was found differ: {proved} and {reference}");
+        }
+        proved == reference
+    }
+}
+
 /// Prints the rows of some works; false where the two sides found other numbers.
 fn rows(works: &[(&str, Work)]) -> bool {
     let mut agree = true;
-    for &(work, doing) in works {
-        for &(path, over) in paths(doing) {
-            let counts = SIDES.map(|(side, by)| count([work, path, side], doing, by));
-            line(&format!("{work}, {path}"), "instructions", counts);
-            let [proved, reference] = SIDES.map(|(_, side)| time(doing, side, over));
-            let times = [proved.0, reference.0];
-            line("", "ns", times.map(Some));
-            if matches!(doing, Work::Text) {
+    for work in works {
+        for path in paths(work.1) {
+            let measured = Measured::of(*work, *path);
+            agree &= measured.print(&format!("{}, {}", work.0, path.0));
+            if matches!(work.1, Work::Text) {
                 // each block is a line
-                line("", "lines a second", times.map(|ns| Some(1e9 / ns)));
-            }
-            if proved.1 != reference.1 {
-                eprintln!(
-                    "{work}, {path}: the sums of what was found differ: {} and {}",
-                    proved.1, reference.1
-                );
-                agree = false;
+                let lines = measured.times.map(|ns| Some(1e9 / ns));
+                line("", "lines a second", lines);
             }
         }
     }
     agree
+}
+
+/// Prints what a take and a plain add of each block take on the mould, beside
+/// that a take and an order of the same block, and by how much the order is
+/// more. False where the exits are not the same.
+fn order_rows() -> bool {
+    let [add, order] = [ADD, ORDER].map(|work| Measured::of(work, PATHS[0]));
+    let agree = [add.print("add, mould"), order.print("order, mould")];
+    let more = |side: usize| Some(order.counts[side]? - add.counts[side]?);
+    line("order beyond add", "instructions", [more(0), more(1)]);
+    let more = |side: usize| Some(order.times[side] - add.times[side]);
+    line("", "ns", [more(0), more(1)]);
+    if order.sums != add.sums {
+        eprintln!("order, mould: the exits are not those of the adds");
+    }
+    agree == [true; 2] && order.sums == add.sums
 }
 
 /// One line: both sides' numbers and proved / reference; a dash where there is

@@ -5,13 +5,16 @@ use std::hint::black_box;
 use compare::library::*;
 use compare::words::limit_words;
 use reference::generate::machine_m;
+use reference::host::Host;
 use reference::incremental::Planner;
 use reference::line::{LookAhead, PLACES};
 use reference::machine::{Block, Machine};
+use reference::orders::Event;
 use reference::quick;
 use reference::tape::{Tape, MOST_BLOCKS, RECORD_BYTES};
 use reference::text::text_records;
 
+use crate::orders::orders_of;
 use crate::paths::Path;
 use crate::texts::text_of;
 
@@ -36,6 +39,9 @@ pub enum Work {
     Root,
     /// The records of texts of 2,048 lines, each with a block.
     Text,
+    /// One take and one order, a feed to the block's end, for each block, with
+    /// 64 held.
+    Order,
 }
 
 impl Work {
@@ -43,7 +49,7 @@ impl Work {
     /// ones.
     pub fn counted(self) -> usize {
         match self {
-            Work::Planner | Work::Root => 20_000,
+            Work::Planner | Work::Root | Work::Order => 20_000,
             Work::Tape | Work::Text => 10 * MOST_BLOCKS,
         }
     }
@@ -59,6 +65,8 @@ impl Work {
             (Work::Root, Side::Reference) => "roots_reference",
             (Work::Text, Side::Proved) => "read_proved",
             (Work::Text, Side::Reference) => "read_reference",
+            (Work::Order, Side::Proved) => "order_proved",
+            (Work::Order, Side::Reference) => "order_reference",
         }
     }
 }
@@ -73,6 +81,8 @@ pub enum Ready {
     RootsReference(Vec<u64>),
     ReadProved(Vec<u8>, usize),
     ReadReference(Vec<u8>, usize),
+    OrderProved(Vec<u64>, [u64; HOST], Vec<Feed>),
+    OrderReference(Box<Planner>, Host, Vec<Event>),
 }
 
 impl Ready {
@@ -108,6 +118,31 @@ impl Ready {
                 }
             }
             (Work::Text, side) => Ready::text(side, path, count.div_ceil(MOST_BLOCKS)),
+            (Work::Order, side) => Ready::orders(side, path, count),
+        }
+    }
+
+    /// Prepares so many orders behind those of the blocks held.
+    fn orders(side: Side, path: Path, count: usize) -> Ready {
+        let mut first = orders_of(path, PLACES + count);
+        let rest = first.split_off(PLACES);
+        match side {
+            Side::Proved => {
+                let (mut memory, mut host) = (filled_memory(&[]), [0; HOST]);
+                unsafe { fullerecru_host_fresh(host.as_mut_ptr()) };
+                let feed = |event| carry_out(&mut memory, &mut host, &Feed::of(event));
+                let refused = first.iter().map(feed).fold(0, |all, number| all | number);
+                assert_eq!(refused, 0, "orders that pass");
+                Ready::OrderProved(memory, host, rest.iter().map(Feed::of).collect())
+            }
+            Side::Reference => {
+                let (mut planner, mut host) = (filled_planner(&[]), Host::default());
+                let passing = first
+                    .iter()
+                    .all(|event| ordered(&mut planner, &mut host, event));
+                assert!(passing, "orders that pass");
+                Ready::OrderReference(planner, host, rest)
+            }
         }
     }
 
@@ -127,6 +162,8 @@ impl Ready {
             Ready::PlanProved(_, runs) | Ready::PlanReference(_, _, runs) => runs * MOST_BLOCKS,
             Ready::RootsProved(sums) | Ready::RootsReference(sums) => sums.len(),
             Ready::ReadProved(_, runs) | Ready::ReadReference(_, runs) => runs * MOST_BLOCKS,
+            Ready::OrderProved(_, _, feeds) => feeds.len(),
+            Ready::OrderReference(_, _, events) => events.len(),
         }
     }
 
@@ -143,6 +180,8 @@ impl Ready {
             Ready::RootsReference(sums) => roots_reference(sums),
             Ready::ReadProved(text, runs) => read_proved(text, *runs),
             Ready::ReadReference(text, runs) => read_reference(text, *runs),
+            Ready::OrderProved(memory, host, feeds) => order_proved(memory, host, feeds),
+            Ready::OrderReference(planner, host, events) => order_reference(planner, host, events),
         }
     }
 }
@@ -304,4 +343,56 @@ fn read_reference(text: &[u8], runs: usize) -> u64 {
         black_box(&mut records);
     }
     words_of(&records)
+}
+
+/// A feed to a point as C hands it over: target and offset, mm, speed, mm/s.
+pub struct Feed {
+    target: [f64; POINT],
+    offset: [f64; POINT],
+    speed: f64,
+}
+
+impl Feed {
+    fn of(event: &Event) -> Feed {
+        Feed {
+            target: event.target.map(f64::from_bits),
+            offset: event.offset.map(f64::from_bits),
+            speed: f64::from_bits(event.speed),
+        }
+    }
+}
+
+fn carry_out(memory: &mut [u64], host: &mut [u64; HOST], feed: &Feed) -> u64 {
+    let (target, offset) = (feed.target.as_ptr(), feed.offset.as_ptr());
+    let (memory, host) = (memory.as_mut_ptr(), host.as_mut_ptr());
+    unsafe { fullerecru_feed(memory, host, target, offset, feed.speed) }
+}
+
+/// Carries out an order by the reference; false where it is refused.
+fn ordered(planner: &mut Planner, host: &mut Host, event: &Event) -> bool {
+    let order = event.order().expect("an order");
+    host.order(planner, &order, &event.offset).is_ok()
+}
+
+#[inline(never)]
+fn order_proved(memory: &mut [u64], host: &mut [u64; HOST], feeds: &[Feed]) -> u64 {
+    let (mut moves, mut numbers) = ([0; 3], [0; 11]);
+    let mut sum = 0;
+    for feed in feeds {
+        let lent = (moves.as_mut_ptr(), numbers.as_mut_ptr());
+        unsafe { fullerecru_take(memory.as_mut_ptr(), lent.0, lent.1) };
+        sum += numbers[EXIT];
+        carry_out(memory, host, feed);
+    }
+    sum
+}
+
+#[inline(never)]
+fn order_reference(planner: &mut Planner, host: &mut Host, events: &[Event]) -> u64 {
+    let mut sum = 0;
+    for event in events {
+        sum += black_box(planner.take()).map_or(0, |given| given.exit);
+        black_box(ordered(planner, host, black_box(event)));
+    }
+    sum
 }

@@ -6,6 +6,9 @@ pub const NUMBERS: usize = 781;
 /// Numbers of a trace's row, and of the list for its plan.
 pub const ROW: usize = 15;
 pub const PLAN: usize = 65;
+/// Numbers of a host's memory, and doubles of a point.
+pub const HOST: usize = 4;
+pub const POINT: usize = 3;
 
 extern "C" {
     pub fn fullerecru_fresh(
@@ -72,6 +75,29 @@ extern "C" {
         blocks: *mut u64,
         place: *mut u64,
     ) -> u64;
+    pub fn fullerecru_host_fresh(host: *mut u64);
+    pub fn fullerecru_rapid(
+        memory: *mut u64,
+        host: *mut u64,
+        target: *const f64,
+        offset: *const f64,
+    ) -> u64;
+    pub fn fullerecru_feed(
+        memory: *mut u64,
+        host: *mut u64,
+        target: *const f64,
+        offset: *const f64,
+        speed: f64,
+    ) -> u64;
+    pub fn fullerecru_curve_chord(
+        memory: *mut u64,
+        host: *mut u64,
+        target: *const f64,
+        offset: *const f64,
+        speed: f64,
+        radius: f64,
+    ) -> u64;
+    pub fn fullerecru_position(host: *const u64, point: *mut f64);
 }
 
 extern "C" {

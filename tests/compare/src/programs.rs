@@ -1,4 +1,4 @@
-//! The programs planlist, planreplay and ngctape.
+//! The programs planlist, planreplay, planorders and ngctape.
 
 use std::env;
 use std::ffi::OsStr;
@@ -32,6 +32,11 @@ pub fn planlist() -> PathBuf {
 /// planreplay, or what PLANREPLAY names.
 pub fn planreplay() -> PathBuf {
     path("PLANREPLAY", "planreplay")
+}
+
+/// planorders, or what PLANORDERS names.
+pub fn planorders() -> PathBuf {
+    path("PLANORDERS", "planorders")
 }
 
 /// ngctape, or what NGCTAPE names.

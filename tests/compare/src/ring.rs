@@ -15,6 +15,7 @@
 mod numbers;
 mod torque;
 
+use reference::line::LookAhead;
 use reference::machine::{check_block, check_limits, Block, Given, Limits};
 use reference::refusal::Refusal;
 
@@ -74,45 +75,6 @@ impl Ring {
         self.memory[..FIRST].copy_from_slice(&limit_words(limits));
         self.memory[FIRST..TORQUE].fill(0);
         self.memory[TORQUE] = torque_of(steps);
-        Ok(())
-    }
-
-    /// Puts a block last, or refuses by the first of 2 to 7.
-    pub fn add(&mut self, block: &Block) -> Result<(), Refusal> {
-        check_block(block)?;
-        if self.memory[COUNT] >= MOST_HELD {
-            return Err(Refusal::Full);
-        }
-        self.put_last(block);
-        Ok(())
-    }
-
-    /// Gives out the first block, or refuses by 8.
-    pub fn take(&mut self) -> Result<Given, Refusal> {
-        if self.memory[COUNT] == 0 {
-            return Err(Refusal::Empty);
-        }
-        let given = self.given_in();
-        self.memory[FIRST] = self.slot(1) as u64;
-        self.memory[COUNT] -= 1;
-        self.memory[COMMITTED] = given.exit;
-        Ok(given)
-    }
-
-    /// Blocks held, as told.
-    pub fn told(&self) -> usize {
-        self.memory[COUNT].min(MOST_HELD) as usize
-    }
-
-    /// The plan in a list one longer than that, or refusal 11.
-    pub fn shown(&self, list: &mut [u64]) -> Result<(), Refusal> {
-        if list.len() != self.told() + 1 {
-            return Err(Refusal::List);
-        }
-        list[0] = self.memory[COMMITTED];
-        for k in 0..self.told() {
-            list[k + 1] = self.exit_at(k as u64, list[k]);
-        }
         Ok(())
     }
 
@@ -232,6 +194,53 @@ impl Ring {
             exit,
             ramp: ramp_between(&numbers, entry, exit),
         }
+    }
+}
+
+impl LookAhead for Ring {
+    /// A fresh planner on memory of zeros.
+    fn fresh(limits: &Limits, steps: &[u8]) -> Result<Ring, Refusal> {
+        let mut ring = Ring::of_memory(&[0; NUMBERS]);
+        ring.freshen(limits, steps).map(|()| ring)
+    }
+
+    /// Puts a block last, or refuses by the first of 2 to 7.
+    fn add(&mut self, block: &Block) -> Result<(), Refusal> {
+        check_block(block)?;
+        if self.memory[COUNT] >= MOST_HELD {
+            return Err(Refusal::Full);
+        }
+        self.put_last(block);
+        Ok(())
+    }
+
+    /// Gives out the first block, or refuses by 8.
+    fn take(&mut self) -> Result<Given, Refusal> {
+        if self.memory[COUNT] == 0 {
+            return Err(Refusal::Empty);
+        }
+        let given = self.given_in();
+        self.memory[FIRST] = self.slot(1) as u64;
+        self.memory[COUNT] -= 1;
+        self.memory[COMMITTED] = given.exit;
+        Ok(given)
+    }
+
+    /// Blocks held, as told.
+    fn told(&self) -> usize {
+        self.memory[COUNT].min(MOST_HELD) as usize
+    }
+
+    /// The plan in a list one longer than that, or refusal 11.
+    fn shown(&self, list: &mut [u64]) -> Result<(), Refusal> {
+        if list.len() != self.told() + 1 {
+            return Err(Refusal::List);
+        }
+        list[0] = self.memory[COMMITTED];
+        for k in 0..self.told() {
+            list[k + 1] = self.exit_at(k as u64, list[k]);
+        }
+        Ok(())
     }
 }
 

@@ -7,7 +7,7 @@ use reference::refusal::Refusal;
 use reference::rng::Rng;
 
 /// Refusals with their numbers on the display.
-const REFUSALS: [(u64, Refusal); 14] = [
+const REFUSALS: [(u64, Refusal); 16] = [
     (1, Refusal::Limits),
     (2, Refusal::Still),
     (3, Refusal::Long),
@@ -22,6 +22,8 @@ const REFUSALS: [(u64, Refusal); 14] = [
     (12, Refusal::Word),
     (13, Refusal::Number),
     (14, Refusal::Steps),
+    (15, Refusal::NotFinite),
+    (16, Refusal::Beyond),
 ];
 
 /// What a number on the display says: 0 is accepted.

@@ -1,10 +1,10 @@
-//! What the programs do with arguments: planlist and planreplay have the options
-//! `--help` and `--steps FILE`, in any order and each at most once, and ngctape
-//! needs the name of one file of limits, with `--help` before it or not. Whatever
-//! else is there, and a file that cannot be opened or read, they tell in one line
-//! on standard error, and read and write nothing. What steps and limits do is
-//! not tested here: the files of steps are empty, those of limits machine M's, or
-//! they cannot be had.
+//! What the programs do with arguments: planlist, planreplay and planorders
+//! have the options `--help` and `--steps FILE`, in any order and each at most
+//! once, and ngctape needs the name of one file of limits, with `--help` before
+//! it or not. Whatever else is there, and a file that cannot be opened or read,
+//! they tell in one line on standard error, and read and write nothing. What
+//! steps and limits do is not tested here: the files of steps are empty, those
+//! of limits machine M's, or they cannot be had.
 
 use std::ffi::OsStr;
 use std::fs::{self, File, Permissions};
@@ -20,6 +20,7 @@ use compare::programs::*;
 use compare::report;
 use reference::generate::machine_m;
 use reference::listing;
+use reference::order_listing;
 use reference::tape::pack_limits;
 use reference::text;
 
@@ -58,34 +59,48 @@ struct Tool {
     result: fn(&[u8]) -> Vec<u8>,
 }
 
-/// planlist and planreplay, with a file of torque steps by an option.
-fn listing_tools() -> [Tool; 2] {
-    let lacks = "'--steps' needs the name of a file, see --help";
+/// A program that lists, with a file of torque steps by an option.
+fn listing_tool(
+    (name, program): (&'static str, PathBuf),
+    usage: &'static str,
+    input: &'static str,
+    result: fn(&[u8]) -> Vec<u8>,
+) -> Tool {
+    Tool {
+        name,
+        program,
+        usage,
+        about: "FILE",
+        option: Some(STEPS),
+        lacks: "'--steps' needs the name of a file, see --help",
+        file: EMPTY,
+        asked,
+        input,
+        result,
+    }
+}
+
+/// planlist, planreplay and planorders.
+fn listing_tools() -> [Tool; 3] {
     [
-        Tool {
-            name: "planlist",
-            program: planlist(),
-            usage: "usage: planlist [--steps FILE] < ",
-            about: "FILE",
-            option: Some(STEPS),
-            lacks,
-            file: EMPTY,
-            asked,
-            input: "tapes/right-angle.tape",
-            result: |tape| listing::planlist(tape, &[]).into_bytes(),
-        },
-        Tool {
-            name: "planreplay",
-            program: planreplay(),
-            usage: "usage: planreplay [--steps FILE] < ",
-            about: "FILE",
-            option: Some(STEPS),
-            lacks,
-            file: EMPTY,
-            asked,
-            input: "traces/shop-traffic.trace",
-            result: |trace| listing::planreplay(trace, &[]).into_bytes(),
-        },
+        listing_tool(
+            ("planlist", planlist()),
+            "usage: planlist [--steps FILE] < ",
+            "tapes/right-angle.tape",
+            |tape| listing::planlist(tape, &[]).into_bytes(),
+        ),
+        listing_tool(
+            ("planreplay", planreplay()),
+            "usage: planreplay [--steps FILE] < ",
+            "traces/shop-traffic.trace",
+            |trace| listing::planreplay(trace, &[]).into_bytes(),
+        ),
+        listing_tool(
+            ("planorders", planorders()),
+            "usage: planorders [--steps FILE] < ",
+            "orders/cam-host.orders",
+            |orders| order_listing::planorders(orders, &[]).into_bytes(),
+        ),
     ]
 }
 
@@ -338,7 +353,7 @@ fn every_list_of_words_is_taken_as_it_asks() {
             tool.expect_asked(list);
         }
     }
-    report(2 * all.len(), "lists of words");
+    report(3 * all.len(), "lists of words");
 }
 
 /// Every list of up to four words for a program that needs a file.
@@ -384,7 +399,7 @@ fn the_lists_of_words_are_those_of_the_rules() {
             tool.expect_asked(words);
         }
     }
-    report(2 * cases.len(), "lists of words by the rules");
+    report(3 * cases.len(), "lists of words by the rules");
 }
 
 /// The same of a program that needs a file.
@@ -485,7 +500,7 @@ fn a_long_word_is_told() {
             }
         }
     }
-    report(3 * (2 * lengths.len() + 8), "long words");
+    report(4 * (2 * lengths.len() + 8), "long words");
 }
 
 /// The word behind `--steps` is its file, whatever it is; a file that is named
@@ -567,7 +582,7 @@ fn a_file_that_may_not_be_read_is_told() {
     for tool in tools() {
         tool.expect_unopened(&tool.with(name), name, "Permission denied");
     }
-    report(3, "files that may not be read");
+    report(4, "files that may not be read");
 }
 
 /// A directory can be opened, and not read.
@@ -579,7 +594,7 @@ fn a_file_that_cannot_be_read_is_told() {
             tool.expect_unread(&tool.with(name), name, "Is a directory");
         }
     }
-    report(3 * names.len(), "files that could not be read");
+    report(4 * names.len(), "files that could not be read");
 }
 
 /// A name of so many bytes: that of a file, by a long way.
@@ -609,7 +624,7 @@ fn a_long_name_of_a_file_is_opened_or_told() {
         let single: Vec<u8> = b"a".repeat(SHOWN);
         tool.expect_unopened(&tool.with(&single), &single, TOO_LONG);
     }
-    report(3 * (opened.len() + 2 * told.len() + 1), "long names");
+    report(4 * (opened.len() + 2 * told.len() + 1), "long names");
 }
 
 /// With `--help` the file is not opened: what it is plays no part.
@@ -654,7 +669,7 @@ fn a_closed_input_is_told() {
         assert_eq!(written.errors, format!("{}: {told}\n", tool.name));
         assert_eq!(written.text, "", "{}", tool.name);
     }
-    report(3, "inputs that are closed");
+    report(4, "inputs that are closed");
 }
 
 #[test]
@@ -672,7 +687,7 @@ fn help_alone_writes_the_usage() {
         assert_eq!(about.count(), 1, "{lines:?}");
         assert_eq!((output.errors.as_str(), read), ("", 0), "{}", tool.name);
     }
-    report(3, "usages");
+    report(4, "usages");
 }
 
 #[test]
@@ -687,7 +702,7 @@ fn a_usage_that_cannot_be_written_is_told() {
         let told = format!("{}: standard output did not take the usage\n", tool.name);
         assert_eq!(written_by(child.expect("a program")).errors, told);
     }
-    report(3, "usages that could not be written");
+    report(4, "usages that could not be written");
 }
 
 /// A program does its work whatever name it is started by.
@@ -706,5 +721,5 @@ fn the_name_of_a_program_is_no_argument() {
             tool.expect_worked(&words, output_of(child.expect("a program")));
         }
     }
-    report(3 * (names.len() + 1), "names of programs");
+    report(4 * (names.len() + 1), "names of programs");
 }

@@ -1,6 +1,7 @@
 //! An input that cannot be read to its end is told on standard error, wherever
-//! its reads begin to fail: planlist and ngctape then write nothing, and
-//! planreplay only the lines of the chunks of calls that it has read whole.
+//! its reads begin to fail: planlist and ngctape then write nothing, planreplay
+//! and planorders only the lines of the chunks of calls or events that they
+//! have read whole.
 
 use std::ffi::{c_char, c_int, CStr, OsStr};
 use std::fs::{self, File, OpenOptions};
@@ -17,16 +18,21 @@ use std::time::{Duration, Instant};
 use compare::programs::*;
 use compare::report;
 use reference::examples::{example, example_text};
-use reference::generate::{calls, limits, machine_m};
+use reference::generate::{calls, events, limits, machine_m};
 use reference::listing;
+use reference::order_listing;
+use reference::orders::{pack_orders, EVENT_BYTES};
 use reference::rng::Rng;
 use reference::tape::{pack_limits, LIMITS_BYTES, MOST_BYTES};
 use reference::text::{self, MOST_TEXT_BYTES};
 use reference::trace::{pack_trace, CALL_BYTES};
 
-/// Calls that planreplay reads and runs at a time, and their bytes.
+/// Calls that planreplay reads and runs at a time, and their bytes; the same of
+/// planorders' events.
 const CHUNK_CALLS: usize = 300;
 const CHUNK_BYTES: usize = CHUNK_CALLS * CALL_BYTES;
+const CHUNK_EVENTS: usize = 300;
+const CHUNK_EVENT_BYTES: usize = CHUNK_EVENTS * EVENT_BYTES;
 
 /// A program, an input for it, and where the input is broken off.
 struct Reading {
@@ -100,6 +106,37 @@ fn planreplay_reading() -> Reading {
     }
 }
 
+fn planorders_reading() -> Reading {
+    let mut rng = Rng::new(22);
+    let limits = limits(&mut rng);
+    let input = pack_orders(&limits, &events(&mut rng, 2 * CHUNK_EVENTS + 20));
+    let border = LIMITS_BYTES + CHUNK_EVENT_BYTES;
+    let all = input.len();
+    Reading {
+        name: "planorders",
+        program: planorders(),
+        file: None,
+        breaks: vec![
+            vec![],
+            vec![7],
+            vec![LIMITS_BYTES],
+            vec![10, LIMITS_BYTES, 500, 4_000],
+            vec![border],
+            vec![1_000, border + 3],
+            vec![border + CHUNK_EVENT_BYTES],
+            vec![border, all],
+            vec![all],
+        ],
+        room: |got| match got.checked_sub(LIMITS_BYTES) {
+            None => LIMITS_BYTES - got,
+            Some(events) => CHUNK_EVENT_BYTES - events % CHUNK_EVENT_BYTES,
+        },
+        lines: |got| got.saturating_sub(LIMITS_BYTES) / CHUNK_EVENT_BYTES * CHUNK_EVENTS,
+        result: order_listing::planorders(&input, &[]).into_bytes(),
+        input,
+    }
+}
+
 /// The breaks lie inside words and lines, at their ends and in pieces.
 fn ngctape_reading() -> Reading {
     let input = example_text("pocket-with-boss").expect("an example");
@@ -127,8 +164,13 @@ fn ngctape_reading() -> Reading {
     }
 }
 
-fn readings() -> [Reading; 3] {
-    [planlist_reading(), planreplay_reading(), ngctape_reading()]
+fn readings() -> [Reading; 4] {
+    [
+        planlist_reading(),
+        planreplay_reading(),
+        planorders_reading(),
+        ngctape_reading(),
+    ]
 }
 
 impl Reading {
@@ -325,7 +367,7 @@ fn a_socket_that_ends_is_read_whole() {
             assert!(output.bytes == reading.result, "{}", reading.name);
         }
     }
-    report(6, "sockets that ended");
+    report(8, "sockets that ended");
 }
 
 /// A read that would have to wait, where the input is set not to, fails each
@@ -368,5 +410,5 @@ fn an_input_that_cannot_be_read_is_told() {
             .stderr(Stdio::piped());
         reading.expect_broken(0, output_of(closed.spawn().expect("sh")));
     }
-    report(9, "inputs that could not be read");
+    report(12, "inputs that could not be read");
 }

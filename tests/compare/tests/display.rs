@@ -7,10 +7,11 @@
 
 use std::collections::BTreeSet;
 
-use compare::library::{NUMBERS, PLAN, ROW};
-use compare::proved::{self, Planner};
+use compare::library::{HOST, NUMBERS, PLAN, POINT, ROW};
+use compare::proved::{self, Host, Planner};
 use compare::{first_seed, report, seeds, Trying};
 use reference::generate::{block, limits, machine_m, steps, straight_steps};
+use reference::host::Order;
 use reference::line::LookAhead;
 use reference::machine::{Block, Limits};
 use reference::refusal::Refusal;
@@ -198,7 +199,7 @@ fn fields_come_back_as_they_were() {
 }
 
 /// The constants of the header, which is written by hand.
-const HEADER_NUMBERS: [(&str, u64); 29] = [
+const HEADER_NUMBERS: [(&str, u64); 33] = [
     ("NUMBERS", NUMBERS as u64),
     ("PLACES", 64),
     ("LIMITS", 9),
@@ -206,6 +207,8 @@ const HEADER_NUMBERS: [(&str, u64); 29] = [
     ("MOVES", 3),
     ("GIVEN", 11),
     ("RECORD", 3),
+    ("HOST", HOST as u64),
+    ("POINT", POINT as u64),
     ("LIMITS_BYTES", LIMITS_BYTES as u64),
     ("RECORD_BYTES", RECORD_BYTES as u64),
     ("MOST_BLOCKS", MOST_BLOCKS as u64),
@@ -228,13 +231,18 @@ const HEADER_NUMBERS: [(&str, u64); 29] = [
     ("REFUSED_WORD", 12),
     ("REFUSED_NUMBER", 13),
     ("REFUSED_STEPS", 14),
+    ("REFUSED_NOT_FINITE", 15),
+    ("REFUSED_BEYOND", 16),
 ];
 
 /// The functions that a text declares, by their names.
 fn functions(text: &str) -> BTreeSet<&str> {
-    let calls = text
-        .split("uint64_t fullerecru_")
-        .chain(text.split("pub fn fullerecru_"));
+    let before = [
+        "uint64_t fullerecru_",
+        "void fullerecru_",
+        "pub fn fullerecru_",
+    ];
+    let calls = before.into_iter().flat_map(|word| text.split(word));
     let names = calls.filter_map(|rest| rest.split_once('(').map(|(name, _)| name));
     names
         .filter(|name| name.chars().all(|c| c.is_ascii_lowercase() || c == '_'))
@@ -256,8 +264,8 @@ fn the_header_has_these_numbers_and_functions() {
     assert_eq!(found, HEADER_NUMBERS);
     let called = functions(include_str!("../src/library.rs"));
     assert_eq!(functions(header), called);
-    assert_eq!(called.len(), 12);
-    report(29 + 12, "constants and functions of the header");
+    assert_eq!(called.len(), 17);
+    report(33 + 17, "constants and functions of the header");
 }
 
 /// The numbers of a call for each of three lengths of what it is lent.
@@ -449,4 +457,168 @@ fn long_texts_give_their_numbers() {
     assert_eq!(text_number(&late(2_048, 2_097_151), 0), (6, 2_097_152));
     assert_eq!(text_number(&late(2_048, 2_097_150), 0), (10, 2_097_151));
     report(9, "numbers of long texts");
+}
+
+const NAN: f64 = f64::NAN;
+const INF: f64 = f64::INFINITY;
+
+/// Fields of an order that passes, X, Y, Z, speed, radius: a rapid has the
+/// first three of them, a feed four, a curve chord all.
+const ORDER: [f64; 5] = [1.0, 2.0, 3.0, 20.0, 1.5];
+const SORTS: [usize; 3] = [3, 4, 5];
+
+/// Values of a coordinate, of a speed and of a radius, each alone in an order,
+/// with the number that the order gives.
+const COORDINATES: &[(f64, u64)] = &[
+    (0.0, 0),
+    (-0.0, 0),
+    (999.999, 0),
+    (1_000.000_4, 0),
+    (-1_000.000_5, 0),
+    (1_000.000_6, 3),
+    (-1_000_000.000_5, 3),
+    (1_000_000.000_6, 16),
+    (-1_000_000.000_6, 16),
+    (1e308, 16),
+    (INF, 15),
+    (-INF, 15),
+    (NAN, 15),
+    (-NAN, 15),
+];
+const SPEEDS: &[(f64, u64)] = &[
+    (0.000_5, 0),
+    (1_000.0, 0),
+    (1_000.000_5, 0),
+    (0.0, 4),
+    (-0.0, 4),
+    (-0.000_4, 4),
+    (1_000.000_6, 4),
+    (1_000_000.0, 4),
+    (-0.000_5, 16),
+    (-1.0, 16),
+    (1_000_000.000_6, 16),
+    (INF, 15),
+    (-INF, 15),
+    (NAN, 15),
+];
+const RADII: &[(f64, u64)] = &[
+    (0.0, 0),
+    (-0.0, 0),
+    (-0.000_4, 0),
+    (10_000.000_4, 0),
+    (10_000.001, 5),
+    (1_000_000.0, 5),
+    (-0.000_5, 16),
+    (-1.0, 16),
+    (1_000_000.000_6, 16),
+    (INF, 15),
+    (-INF, 15),
+    (NAN, 15),
+];
+const FIELD_VALUES: [&[(f64, u64)]; 5] = [COORDINATES, COORDINATES, COORDINATES, SPEEDS, RADII];
+
+/// A planner and a host: fresh, or with 64 blocks held and no mark left.
+fn planner_and_host(full: bool) -> (Planner, Host) {
+    let mut planner = Planner::fresh(&machine_m(), &[]).expect("machine M passes");
+    if !full {
+        return (planner, Host::fresh());
+    }
+    for block in straight_steps(first_seed(), 64) {
+        planner.add(&block).expect("room");
+    }
+    (planner, Host::of_numbers(&[0, 0, 0, 2_097_151]))
+}
+
+/// The number of the order that has these fields, under an offset.
+fn order_number((planner, host): &mut (Planner, Host), fields: &[f64], offset: [f64; 3]) -> u64 {
+    let bits: Vec<u64> = fields.iter().map(|field| field.to_bits()).collect();
+    let order = match bits[..] {
+        [x, y, z] => Order::Rapid([x, y, z]),
+        [x, y, z, speed] => Order::Feed([x, y, z], speed),
+        [x, y, z, speed, radius] => Order::CurveChord([x, y, z], speed, radius),
+        _ => panic!("{fields:?} are no order's"),
+    };
+    number(host.order(planner, &order, &offset.map(f64::to_bits)))
+}
+
+/// Each field of each sort of order, and each coordinate by its offset alone.
+#[test]
+fn each_field_of_an_order_gives_its_numbers() {
+    let mut count = 0;
+    for fields in SORTS {
+        for (field, values) in FIELD_VALUES.iter().enumerate().take(fields) {
+            for (value, expected) in *values {
+                let mut order = ORDER;
+                order[field] = *value;
+                let found = order_number(&mut planner_and_host(false), &order[..fields], [0.0; 3]);
+                assert_eq!(found, *expected, "{order:?}, {fields} fields");
+                count += 1;
+                if field < POINT {
+                    let mut offset = [0.0; 3];
+                    (order[field], offset[field]) = (0.0, -*value);
+                    let both = &mut planner_and_host(false);
+                    let found = order_number(both, &order[..fields], offset);
+                    assert_eq!(found, *expected, "{order:?} less {offset:?}");
+                    count += 1;
+                }
+            }
+        }
+    }
+    report(count, "numbers of the fields of orders");
+}
+
+/// 15 or 16 of the first field at fault, whatever the later ones are, before
+/// any number of an add.
+#[test]
+fn the_first_field_at_fault_decides() {
+    let faults = [(NAN, 15), (INF, 15), (-INF, 15), (1e7, 16), (-1e7, 16)];
+    let mut count = 0;
+    for (full, fields) in [false, true]
+        .into_iter()
+        .flat_map(|full| SORTS.map(|n| (full, n)))
+    {
+        let both = &mut planner_and_host(full);
+        for (first, later) in (0..fields).flat_map(|k| (k + 1..fields).map(move |n| (k, n))) {
+            for (value, expected) in faults {
+                for (other, _) in faults {
+                    // of the other fields none passes: still, no feed, too wide
+                    let mut order = [0.0, 0.0, 0.0, 0.0, 20_000.0];
+                    (order[first], order[later]) = (value, other);
+                    let found = order_number(both, &order[..fields], [0.0; 3]);
+                    assert_eq!(found, expected, "{order:?}, {fields} fields");
+                    count += 1;
+                }
+            }
+        }
+    }
+    report(count, "orders with two fields at fault");
+}
+
+/// 2 to 7 of the block in their order, from each sort of order that has them,
+/// at a planner that is full and a host that has no mark left.
+#[test]
+fn orders_give_the_numbers_of_adds() {
+    let long = 1_000.001;
+    let orders: [(&[f64], u64); 9] = [
+        (&[0.0, 0.0, 0.0, 0.0, 20_000.0], 2),
+        (&[0.0, 0.0, long, 0.0, 20_000.0], 3),
+        (&[0.0, 0.0, 1.0, 0.0, 20_000.0], 4),
+        (&[0.0, 0.0, 1.0, 20.0, 20_000.0], 5),
+        (&[0.0, 0.0, 1.0, 20.0, 1.0], 6),
+        (&[0.0, 0.0, 0.0, 0.0], 2),
+        (&[0.0, 0.0, 1.0, 0.0], 4),
+        (&[0.0, long, 0.0], 3),
+        (&[0.0, 0.0, 1.0], 6),
+    ];
+    let both = &mut planner_and_host(true);
+    for (fields, expected) in orders {
+        assert_eq!(order_number(both, fields, [0.0; 3]), expected, "{fields:?}");
+    }
+    both.1.freshen();
+    for fields in SORTS {
+        assert_eq!(order_number(both, &ORDER[..fields], [0.0; 3]), 7);
+    }
+    both.0.take().expect("64 are held");
+    assert_eq!(order_number(both, &ORDER, [0.0; 3]), 0);
+    report(orders.len() + 4, "orders with the numbers of adds");
 }

@@ -8,13 +8,15 @@
 //! names this file.
 
 use compare::guarded::{lend_at, Side, SIDES};
-use compare::library::{PLAN, ROW};
-use compare::proved::{self, Planner};
+use compare::hosts::{any_host, Kept};
+use compare::library::{HOST, PLAN, ROW};
+use compare::proved::{self, Host, Planner};
 use compare::texts::{bytes_of, compare_text};
 use compare::traces::{self, rows};
 use compare::words::some_steps;
 use compare::{hex, report, same, seeds, Trying};
 use reference::generate::*;
+use reference::host;
 use reference::line::{Line, LookAhead, PLACES};
 use reference::machine::{Block, Limits, Machine};
 use reference::quick;
@@ -297,4 +299,38 @@ fn steps_of_each_length_stay_in_their_bytes() {
         }
     });
     report(2 * 301 * 2 * 3, "calls with 0 to 300 bytes of steps");
+}
+
+/// Orders of every sort with takes between, accepted and refused, from a fresh
+/// host on used numbers, with its point after each; then points of hosts of any
+/// numbers.
+#[test]
+fn orders_stay_in_their_memory_and_points() {
+    at_both_sides(|seed, rng, side| {
+        let (limits, steps) = (limits(rng), steps(rng));
+        let mut planner = Planner::fresh(&limits, &steps).expect("limits and steps that pass");
+        let mut line = Line::fresh(&limits, &steps).expect("limits and steps that pass");
+        let mut proved = Host::of_numbers(&any_host(rng));
+        proved.freshen();
+        assert_eq!(proved.numbers(), [0; HOST], "{side:?}");
+        let mut known = host::Host::default();
+        for event in events(rng, 3_000) {
+            let input = || format!("{side:?} {event:x?}");
+            let Some(order) = event.order() else {
+                same(seed, input, planner.take(), line.take());
+                continue;
+            };
+            let found = proved.order(&mut planner, &order, &event.offset);
+            let expected = known.order(&mut line, &order, &event.offset);
+            same(seed, input, found, expected);
+            same(seed, input, proved.position(), known.position());
+        }
+        for _ in 0..1_000 {
+            let numbers = any_host(rng);
+            let found = Host::of_numbers(&numbers).position();
+            let expected = Kept::of_numbers(&numbers).position();
+            same(seed, || format!("{side:?} {numbers:x?}"), found, expected);
+        }
+    });
+    report(2 * 4_000, "orders, takes and points of a host");
 }

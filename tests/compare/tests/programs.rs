@@ -1,6 +1,6 @@
 //! The programs planlist and planreplay write what the reference writes, and
-//! all programs take their files in pieces. ngctape.rs has the rest of
-//! ngctape.
+//! all programs take their files in pieces. ngctape.rs has the rest of ngctape,
+//! planorders.rs that of planorders.
 
 use std::ffi::{c_char, c_int, c_uint, CString};
 use std::fs::{self, File};
@@ -14,11 +14,12 @@ use std::time::Duration;
 use compare::programs::*;
 use compare::words::some_steps;
 use compare::{hex, report, same, seeds};
-use reference::examples::{example, example_trace, NAMES, TRACE_NAMES};
+use reference::examples::{example, example_orders, example_trace, NAMES, TRACE_NAMES};
 use reference::generate::*;
 use reference::incremental::Planner;
 use reference::listing;
 use reference::machine::{Block, Limits};
+use reference::order_listing;
 use reference::rng::Rng;
 use reference::tape::{Tape, LIMITS_BYTES, MOST_BLOCKS, MOST_BYTES};
 use reference::text;
@@ -218,10 +219,13 @@ fn write_bytes(pipe: &Path, bytes: &[u8]) {
 fn programs_take_steps_in_pieces() {
     let tape = example("mould-row").expect("an example").pack();
     let trace = example_trace("shop-traffic").expect("an example");
+    let orders = example_orders("cam-host").expect("an example");
     for steps in [&[90; 7][..], &[90; 8], &[90; 9]] {
+        let ordered = order_listing::planorders(&orders, steps);
         let runs = [
             (planlist(), &tape, listing::planlist(&tape, steps)),
             (planreplay(), &trace, listing::planreplay(&trace, steps)),
+            (planorders(), &orders, ordered),
         ];
         for (program, input, expected) in runs {
             let pipe = named_pipe("steps.pipe");
@@ -233,7 +237,7 @@ fn programs_take_steps_in_pieces() {
             let _ = fs::remove_file(&pipe);
         }
     }
-    report(6, "steps in pieces");
+    report(9, "steps in pieces");
 }
 
 /// Limits that come byte by byte, all of them and one byte less.

@@ -1,5 +1,5 @@
 //! The owner's own torque steps, wherever they are taken: by a fresh planner, a
-//! whole tape's plan, a trace and both programs. Worked accelerations and plans;
+//! whole tape's plan, a trace and the programs. Worked accelerations and plans;
 //! which lists are accepted, and that a refused one changes nothing; which of
 //! several refusals comes first; that steps are fixed when they are taken; and
 //! the acceleration at each edge of the eight steps.
@@ -12,7 +12,7 @@ use std::collections::BTreeSet;
 use std::hint::black_box;
 
 use compare::library::{fullerecru_fresh, NUMBERS, PLAN, ROW};
-use compare::programs::{planlist, planreplay, run, run_under, run_with_steps};
+use compare::programs::{planlist, planorders, planreplay, run, run_under, run_with_steps};
 use compare::proved::{self, Planner};
 use compare::ring::TORQUE;
 use compare::traces::rows;
@@ -22,12 +22,13 @@ use reference::generate::*;
 use reference::line::{Line, LookAhead};
 use reference::listing;
 use reference::machine::{Block, Given, Limits, Machine, Numbers};
+use reference::orders::{pack_orders, Event};
 use reference::refusal::{Fault, Refusal};
 use reference::rng::Rng;
 use reference::tape::{Tape, LIMITS_BYTES, MOST_BLOCKS, RECORD_BYTES};
 use reference::trace::{pack_trace, Call, CALL_BYTES};
 
-/// What planlist and planreplay write for steps at fault.
+/// What planlist, planreplay and planorders write for steps at fault.
 const REFUSED: &str = "refused 14 at 0\n";
 
 /// The steps where none are loaded.
@@ -68,6 +69,12 @@ fn tape_of_two() -> Vec<u8> {
 fn trace_of_two() -> Vec<u8> {
     let calls = [Call::Add(long()), Call::Add(long()), Call::Take];
     pack_trace(&machine_m(), &calls)
+}
+
+/// Orders of the same two and a take.
+fn orders_of_two() -> Vec<u8> {
+    let to = |x: f64| Event::feed([x, 0.0, 0.0], 300.0);
+    pack_orders(&machine_m(), &[to(100.0), to(200.0), Event::take()])
 }
 
 /// A planner on limits and steps that pass.
@@ -114,14 +121,19 @@ fn the_programs_have_the_worked_accelerations_and_plans() {
         let second = format!("0 100000 {accel} {middle} {middle} 0 0 0 100000\n");
         let listing = format!("{}\n{first}{second}", listing::HEADER);
         let replayed = format!("added\nadded\n{first}held 1\nplan {middle} 0\n");
+        // an order's mark is its place, and the host ends at 200,000 µm
+        let ordered = replayed.replacen("\n0 ", "\n1 ", 1);
+        let ordered = format!("{ordered}point {} 0 0\n", 200_000_f64.to_bits());
         for seed in 0..2 {
             let listed = run_under(seed, &planlist(), steps, &tape_of_two());
             assert_eq!(listed, listing, "{steps:?}");
             let text = run_under(seed, &planreplay(), steps, &trace_of_two());
             assert_eq!(text, replayed, "{steps:?}");
+            let text = run_under(seed, &planorders(), steps, &orders_of_two());
+            assert_eq!(text, ordered, "{steps:?}");
         }
     }
-    report(4 * 2 * 2, "worked lists of steps in the programs");
+    report(4 * 2 * 3, "worked lists of steps in the programs");
 }
 
 /// Good bytes that are not eight; 264 and 65,544 are eight to who counts in one
@@ -237,14 +249,16 @@ fn refused_lists_change_nothing() {
 #[test]
 fn the_programs_refuse_the_same_lists() {
     let lists = refused_lists();
-    let (tape, trace) = (tape_of_two(), trace_of_two());
+    let (tape, trace, orders) = (tape_of_two(), trace_of_two(), orders_of_two());
     for steps in &lists {
         let listed = run_with_steps(&planlist(), steps, &tape, usize::MAX);
         assert_eq!(listed, REFUSED, "{steps:?}");
         let replayed = run_with_steps(&planreplay(), steps, &trace, usize::MAX);
         assert_eq!(replayed, REFUSED, "{steps:?}");
+        let ordered = run_with_steps(&planorders(), steps, &orders, usize::MAX);
+        assert_eq!(ordered, REFUSED, "{steps:?}");
     }
-    report(2 * lists.len(), "refused lists of steps in the programs");
+    report(3 * lists.len(), "refused lists of steps in the programs");
 }
 
 /// The request's words: none loaded, or eight bytes, each 1 to 100 and none
@@ -345,7 +359,7 @@ fn lists_near_the_border_are_judged_by_the_words() {
 /// The programs judge as the words do: a refusal's line, or another text.
 #[test]
 fn the_programs_judge_by_the_words() {
-    let (tape, trace) = (tape_of_two(), trace_of_two());
+    let (tape, trace, orders) = (tape_of_two(), trace_of_two(), orders_of_two());
     let mut met = [0; 2];
     for seed in seeds(300) {
         let steps = near_the_border(&mut Rng::new(seed));
@@ -354,10 +368,12 @@ fn the_programs_judge_by_the_words() {
         assert_eq!(listed != REFUSED, good, "{steps:?}");
         let replayed = run_under(seed, &planreplay(), &steps, &trace);
         assert_eq!(replayed != REFUSED, good, "{steps:?}");
+        let ordered = run_under(seed, &planorders(), &steps, &orders);
+        assert_eq!(ordered != REFUSED, good, "{steps:?}");
         met[usize::from(good)] += 1;
     }
     assert!(met.iter().all(|times| *times > 40), "{met:?}");
-    report(600, "lists near the border in the programs");
+    report(900, "lists near the border in the programs");
 }
 
 /// What a whole tape, and what a trace, can be refused by, first check first; 2
@@ -700,8 +716,8 @@ fn every_edge_speed_has_the_acceleration_of_its_step() {
     report(count, "edge speeds under loaded steps");
 }
 
-/// Paths at edge speeds under loaded steps, in both programs; without the steps
-/// most of the texts are others.
+/// Paths at edge speeds under loaded steps, in planlist and planreplay; without
+/// the steps most of the texts are others.
 #[test]
 fn the_programs_have_the_accelerations_of_edge_speeds() {
     let mut telling = 0;

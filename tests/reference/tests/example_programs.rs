@@ -2,8 +2,10 @@
 
 use reference::examples::right_angle;
 use reference::generate::machine_m;
+use reference::host::Host;
 use reference::line::{Line, LookAhead};
 use reference::machine::{Block, Given, Limits, Ramp};
+use reference::orders::Event;
 use reference::tape::{plan_tape, read_limits, read_record, LIMITS_BYTES, RECORD_BYTES};
 use reference::text::{text_blocks, text_tape};
 
@@ -25,6 +27,8 @@ const ROW: [[i64; 4]; 9] = [
 const AHEAD: usize = 5;
 /// feed.c's torque steps of other motors, percent.
 const MOTORS: [u8; 8] = [50, 50, 45, 40, 35, 30, 25, 20];
+/// feed.c's work offset, mm.
+const OFFSET: [f64; 3] = [0.3, 0.1, 0.3];
 
 /// A name and numbers, parted by spaces.
 fn list(name: &str, numbers: &[u64]) -> String {
@@ -161,6 +165,36 @@ fn trace_text() -> String {
     text + &held(&line) + &format!("a torque step too few: refused by {}\n", refusal.number())
 }
 
+/// feed.c's orders by the names that it prints; the last goes too far.
+fn orders() -> [(&'static str, Event); 4] {
+    let chord = Event::curve_chord([2.1, 0.6, 0.3], 20.0, 1.5);
+    [
+        ("rapid", Event::rapid([0.1, 0.2, 0.3])),
+        ("feed", Event::feed([1.1, 0.2, 0.3], 20.0)),
+        ("curve chord", chord),
+        ("feed", Event::feed([2.1, 2e6, 0.3], 20.0)),
+    ]
+}
+
+/// Each order's answer with the host's point, µm, then the plan and the blocks.
+fn orders_text() -> String {
+    let mut line = Line::fresh(&machine_m(), &[]).unwrap();
+    let mut host = Host::default();
+    let mut text = String::new();
+    for (name, event) in orders() {
+        let event = event.under(OFFSET);
+        let answer = host.order(&mut line, &event.order().unwrap(), &event.offset);
+        let refused = answer.map_or_else(|refusal| refusal.number(), |()| 0);
+        let [x, y, z] = host.position().map(f64::from_bits);
+        text += &format!("{name} {refused}, host at {x:.1} {y:.1} {z:.1}\n");
+    }
+    text += &held(&line);
+    while line.told() != 0 {
+        text += &taken(&mut line);
+    }
+    text
+}
+
 /// What pair.rs prints: the pair's plan, its blocks, and a take too many.
 fn pair_text() -> String {
     let pair = right_angle();
@@ -180,7 +214,7 @@ fn pair_text() -> String {
 fn c_example_prints_these_numbers() {
     assert_eq!(
         FEED_TEXT,
-        row_text() + &tape_text() + &trace_text() + &text_text()
+        row_text() + &tape_text() + &trace_text() + &text_text() + &orders_text()
     );
 }
 
