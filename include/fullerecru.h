@@ -263,17 +263,19 @@ uint64_t fullerecru_text(const uint8_t *text, size_t count, uint8_t *records, si
  * Makes a fresh host: its point is zero, and no order was accepted. */
 void fullerecru_host_fresh(uint64_t host[FULLERECRU_HOST]);
 
-/* The three sorts of order: rapid to a target, which has feed 1,000,000 µm/s; feed to a target with a
- * speed in mm/s; curve chord to a target with a speed in mm/s and a radius in mm. target and offset,
- * the work offset, are points X, Y, Z in mm. The offset is subtracted from each coordinate in one
- * double operation. The result times 1,000 is rounded to the nearest whole number, an exact half to
- * the even one, from the double's own bits: 0.0625 mm is 62 µm, 0.1875 mm is 188. Speed and radius go
- * the same way without offset. The block goes from the last accepted order's rounded point, at first
- * from zero, to this one's; its mark is the order's place from 1, refused orders not counted.
+/* The three sorts of order: rapid to a target, which has feed 1,000,000 µm/s; feed to a target
+ * with a speed in mm/s; curve chord to a target with a speed in mm/s and a radius in mm. target
+ * and offset, the work offset, are points X, Y, Z in mm. The offset is subtracted from each
+ * coordinate in one double operation: the processor must round to nearest and mask floating-point
+ * exceptions, as it does where a C program begins. The result times 1,000 is rounded to the
+ * nearest whole number, an exact half to the even one, from the double's own bits: 0.0625 mm is 62
+ * µm, 0.1875 mm is 188. Speed and radius go the same way without offset. The block goes from the
+ * last accepted order's rounded point, at first from zero, to this one's; its mark is the order's
+ * place from 1, refused orders not counted.
  *
- * Refuses field by field, X, Y, Z, speed, radius, in each by 15, then 16; then by 2, 3, 4, 5, 6, 7 as
- * fullerecru_add does. After 2,097,151 accepted orders there is no mark left, and 6 comes until the
- * host is made fresh. Accepted, it writes memory and host. */
+ * Refuses field by field, X, Y, Z, speed, radius, in each by 15, then 16; then by 2, 3, 4, 5, 6, 7
+ * as fullerecru_add does. After 2,097,151 accepted orders there is no mark left, and 6 comes until
+ * the host is made fresh. Accepted, it writes memory and host. */
 uint64_t fullerecru_rapid(uint64_t memory[FULLERECRU_NUMBERS], uint64_t host[FULLERECRU_HOST],
                           const double target[FULLERECRU_POINT],
                           const double offset[FULLERECRU_POINT]);

@@ -1,5 +1,5 @@
-// Orders of a host for C, on two memories that the caller lends: the planner's, and the host's four numbers, whose content is
-// the host's. Points are three doubles; targets and offsets are in mm.
+// Orders of a host for C, on memory that the caller lends: the planner's, and the four numbers that keep the host. A point is
+// three doubles; targets and offsets are in mm.
 ghost use mathlib.Core.Path.{_≡_};
 ghost use lib.ListN.{length};
 ghost use Rattle.line.specs.Answers.{answerBy};
