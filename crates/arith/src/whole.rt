@@ -10,6 +10,13 @@ pub fn smaller(a: u64, b: u64) -> u64
     if a <= b { a } else { b }
 }
 
+// The smaller of two counts.
+pub fn fewer(a: usize, b: usize) -> usize
+    ensures { λ r. ⌜ r ≡ min a b ⌝ }
+{
+    if a <= b { a } else { b }
+}
+
 // The larger of two numbers.
 pub fn larger(a: u64, b: u64) -> u64
     ensures { λ r. ⌜ r ≡ max a b ⌝ }

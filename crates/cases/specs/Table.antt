@@ -7,7 +7,7 @@ use lib.IntN.{pos, negℤ}
 use lib.ListN.{replicate}
 use Rattle.profile.specs.Line.{numberAt}
 use Rattle.profile.specs.Passes.{planOf}
-use Rattle.machine.specs.Numbers.{CornerCap, none, upTo, lengthOf, accelOf, reachOf, chordCap, blockCap, cornerCap, numbersOf, rampOf}
+use Rattle.machine.specs.Numbers.{OpenCap, none, upTo, lengthOf, accelOf, reachOf, chordCap, blockCap, cornerCap, numbersOf, rampOf}
 use Rattle.machine.specs.Line.{spansOf}
 use Rattle.machine.specs.Labels.{plainBlock}
 use Rattle.machine.specs.Torque.{stepsRefusal, machineRefusal, torquePercent}
@@ -45,7 +45,7 @@ abbrev north : Block
 north = block (pos 0) (pos 1_000) (pos 0)
 
 -- a corner cap as numbers: none is no number
-abbrev capNumbers : CornerCap → List ℕ
+abbrev capNumbers : OpenCap → List ℕ
 capNumbers none = []
 capNumbers (upTo q) = q ∷ []
 

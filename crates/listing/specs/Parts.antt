@@ -10,7 +10,7 @@ use Rattle.profile.specs.Line.{numberAt}
 use Rattle.display.specs.Display.{refusalNumber, byNumber}
 use Rattle.tape.specs.Tape.{recordsIn}
 use Rattle.tape.specs.Answers.{mostBlocks}
-use Rattle.tapeplan.specs.Planned.{plannedMeans, tapeMachine, tapePlan, wholeFault, wholeRefusal}
+use Rattle.tapeplan.specs.Planned.{mostJunctions, plannedMeans, tapeMachine, tapePlan, wholeFault, wholeRefusal}
 use Rattle.tapeplan.specs.Sheet.{SheetAfter, measuredAt}
 use Rattle.machine.specs.Labels.{plainBlock}
 use Rattle.machine.specs.declared.Block.{Block}
@@ -21,10 +21,6 @@ use Rattle.listing.specs.Given.{givenText, mostGiven}
 use Rattle.tapeplan.specs.declared.TapePlanned.{TapePlanned}
 use Rattle.tapeplan.specs.declared.TapePlanned.the-variants.{Planned, Refused}
 use Rattle.listing.specs.declared.Listing.{Listing}
-
--- junctions of the longest tape
-abbrev pub mostJunctions : ℕ
-mostJunctions = mostBlocks + 1
 
 -- lines of a part at most, and parts of the longest listing
 abbrev pub partBlocks : ℕ

@@ -3,17 +3,19 @@
 pub mod given;
 
 ghost use mathlib.Core.Path.{_≡_};
-ghost use Prim.Native.Nat.{_+_, _<_, _≤_, min};
+ghost use Prim.Native.Nat.{_+_, _<_, _≤_};
 ghost use lib.ListN.{length};
 ghost use Rattle.text.specs.Text.{refusedAt};
 ghost use Rattle.text.specs.Store.{Stored};
 ghost use Rattle.display.specs.Display.{refusalNumber};
 ghost use Rattle.tape.specs.Answers.{mostBlocks};
+ghost use Rattle.tapeplan.specs.Planned.{mostJunctions};
 ghost use Rattle.tapeplan.specs.Sheet.{rowsIn, sheetSize};
 ghost use Rattle.listing.specs.Given.{WroteLine, mostGiven};
-ghost use Rattle.listing.specs.Parts.{ListingFrom, headIn, headerSize, lineOf, mostJunctions, onlyFirst, partBlocks, partOf, partSize, plannedPart, rowLines};
+ghost use Rattle.listing.specs.Parts.{ListingFrom, headIn, headerSize, lineOf, onlyFirst, partBlocks, partOf, partSize, plannedPart, rowLines};
 use crate::given::LINE;
 use crate::given::store_given;
+use arith::whole::fewer;
 use display::Refusal;
 use display::refusal_number;
 use machine::blocks::plain_block;
@@ -23,7 +25,8 @@ use tape::records::records_in;
 use tapeplan::TapePlanned;
 use tapeplan::sheet::SHEET;
 use tapeplan::sheet::measured_at;
-use tapeplan::whole::plan_measured;
+use tapeplan::whole::JUNCTIONS;
+use tapeplan::whole::plan_whole;
 use text::behind;
 use text::put_header;
 use text::put_refused_at;
@@ -36,16 +39,6 @@ pub const PARTS: usize = MOST_BLOCKS / BLOCKS;
 const HEADER: usize = 49;
 
 pub const TEXT: usize = HEADER + BLOCKS * LINE;
-// Junctions of the longest tape.
-const JUNCTIONS: usize = MOST_BLOCKS + 1;
-
-// The smaller of two counts.
-fn fewer(a: usize, b: usize) -> usize
-    ensures { λ r. ⌜ r ≡ min a b ⌝ }
-{
-    if a <= b { a } else { b }
-}
-
 // Stores the line of block k, from its row of the sheet and the plan's numbers at its two ends.
 fn put_block(sheet: &[u64], plan: &[u64], k: usize, text: &mut [u8], at: usize) -> usize
     requires { ⌜ (k < rowsIn (now sheet)) × (k + 1 < length (now plan)) × (at + mostGiven ≤ length (now text)) ⌝ }
@@ -135,13 +128,11 @@ impl Listing {
     pub fn of(s: &[u8], steps: &[u8], sheet: &mut [u64; SHEET]) -> Listing
         ensures { λ r. ⌜ ListingFrom (now (s .entry)) (now (steps .entry)) (now (sheet .entry)) (now (sheet .exit)) r ⌝ }
     {
-        let blocks = fewer(records_in(s), MOST_BLOCKS);
-        let junctions = blocks + 1;
         let mut plan = [0u64; JUNCTIONS];
-        let answer = plan_measured(s, steps, sheet, &mut plan[..junctions]);
+        let answer = plan_whole(s, steps, sheet, &mut plan);
         Listing {
             answer: answer,
-            blocks: blocks,
+            blocks: fewer(records_in(s), MOST_BLOCKS),
             plan: plan,
         }
     }

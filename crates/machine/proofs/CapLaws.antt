@@ -15,8 +15,8 @@ use Rattle.arith.proofs.QuotientLaws.{quotient-is, quotient-positive}
 use Rattle.arith.proofs.SignedLaws.{gap-positive}
 use Rattle.machine.specs.Ranges.{mostFeed}
 use Rattle.machine.specs.Checks.{blockRefusal}
-use Rattle.machine.specs.Numbers.{CornerCap, none, upTo, unit, lengthOf, speedOf, toleranceAt, chordFactor, chordCap, blockCapFrom, blockCap, dotOf, turnFrom, cornerFrom, cornerCap, underCorner, junctionCap}
-use Rattle.machine.specs.Meaning.{Largest, ChordFits, ChordWithin, CornerIs, CornerFits, JunctionFits}
+use Rattle.machine.specs.Numbers.{OpenCap, none, upTo, unit, lengthOf, speedOf, toleranceAt, chordFactor, chordCap, blockCapFrom, blockCap, dotOf, turnFrom, cornerFrom, cornerCap, underCap, junctionCap}
+use Rattle.machine.specs.Meaning.{Largest, ChordFits, ChordWithin, CornerIs, CapFits, JunctionFits}
 use Rattle.machine.specs.declared.Limits.{Limits}
 use Rattle.machine.specs.declared.Block.{Block}
 use Rattle.machine.proofs.Bounds.{in-range}
@@ -107,7 +107,7 @@ unfolding cornerCap turnFrom
 corner-is l a b = corner-by (l .jump) (lengthOf a * lengthOf b) (pos (unit * unit) *ℤ dotOf a b) _ refl
 
 -- a cap under a corner cap is the largest number not above either
-under-largest : (c : CornerCap) (cap : ℕ) → Largest (λ q. (q ≤ cap) × CornerFits c q) (underCorner c cap)
+under-largest : (c : OpenCap) (cap : ℕ) → Largest (λ q. (q ≤ cap) × CapFits c q) (underCap c cap)
 under-largest none cap = record { has = (le-refl cap, omega arith); most = λ p h. h .0 }
 under-largest (upTo q) cap = record { has = (min-le-left cap q, min-le-right cap q); most = λ p h. le-min (h .0) (h .1) }
 

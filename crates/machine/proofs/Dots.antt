@@ -7,7 +7,7 @@ use lib.IntN.{ℤ, pos, natAbs, _+ℤ_, _*ℤ_}
 use Rattle.arith.specs.Quotient.{cappedQuotient}
 use Rattle.arith.proofs.QuotientLaws.{quotient-positive}
 use Rattle.machine.specs.Checks.{movesOf}
-use Rattle.machine.specs.Numbers.{AxesBelow, unit, dotOf, turnFrom, cornerFrom, underCorner}
+use Rattle.machine.specs.Numbers.{AxesBelow, unit, dotOf, turnFrom, cornerFrom, underCap}
 use Rattle.machine.specs.declared.Block.{Block}
 use Rattle.arith.proofs.SignedLaws.{readBack, small-back, times-back, plus-back, natAbs-product, natAbs-sum, gap-below}
 
@@ -59,7 +59,7 @@ unfolding turnFrom
 turn-below product a b p h g = omega (arith, gap-below product (pos (unit * unit) *ℤ dotOf a b), scaled-dot-below a b h g)
 
 -- a cap under the corner cap is a capped quotient
-pub corner-quotient : (cap jump product turn : ℕ) → cappedQuotient cap (jump * jump * product) (2 * turn) ≡ underCorner (cornerFrom jump product turn) cap
+pub corner-quotient : (cap jump product turn : ℕ) → cappedQuotient cap (jump * jump * product) (2 * turn) ≡ underCap (cornerFrom jump product turn) cap
 unfolding cornerFrom cappedQuotient
 corner-quotient cap jump product zero = refl
 corner-quotient cap jump product (suc turn) = quotient-positive cap (jump * jump * product) (2 * suc turn) (omega arith)

@@ -1,6 +1,7 @@
 -- The laws of the machine's numbers.
 pub mod AxisLaws
 pub mod Bounds
+pub mod CapCauses
 pub mod CapLaws
 pub mod Dots
 pub mod Junctions

@@ -1,5 +1,6 @@
 -- Document 01's machine and block: ranges, refusals, numbers, what the numbers mean, and what the calls answer.
 pub mod Answers
+pub mod Caps
 pub mod Checks
 pub mod Labels
 pub mod Line

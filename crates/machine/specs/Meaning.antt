@@ -9,7 +9,7 @@ use lib.Signed.{_≤ℤ_}
 use Rattle.arith.specs.Nearest.{NearestHalfDown, NearestHalfUp}
 use Rattle.machine.specs.Ranges.{stepCount, leastPercent, mostPercent}
 use Rattle.machine.specs.Checks.{movesOf}
-use Rattle.machine.specs.Numbers.{CornerCap, none, upTo, unit, lengthOf, blockCap, toleranceAt, cornerCap}
+use Rattle.machine.specs.Numbers.{OpenCap, none, upTo, unit, lengthOf, blockCap, toleranceAt, cornerCap}
 use Rattle.machine.specs.declared.Axes.{Axes}
 use Rattle.machine.specs.declared.Limits.{Limits}
 use Rattle.machine.specs.declared.Block.{Block}
@@ -66,19 +66,19 @@ ChordWithin l radius q =
 
 -- what a corner cap is between blocks with P = `product` and S = `sum`: none where S ≥ P, otherwise, with the turn
 -- P - S above 0, the greatest number that the rule allows
-abbrev pub CornerIs : (jump product : ℕ) (sum : ℤ) → CornerCap → Type 0
+abbrev pub CornerIs : (jump product : ℕ) (sum : ℤ) → OpenCap → Type 0
 CornerIs jump product sum none = pos product ≤ℤ sum
 CornerIs jump product sum (upTo q) =
     (turn : ℕ) × (pos turn ≡ pos product -ℤ sum) × (0 < turn) × Largest (λ p. p * (2 * turn) ≤ jump * jump * product) q
 
--- a squared speed not above a corner cap
-abbrev pub CornerFits : CornerCap → ℕ → Type 0
-CornerFits none q = 0 ≤ q
-CornerFits (upTo cap) q = q ≤ cap
+-- a squared speed not above a cap that may be none
+abbrev pub CapFits : OpenCap → ℕ → Type 0
+CapFits none q = 0 ≤ q
+CapFits (upTo cap) q = q ≤ cap
 
 -- a squared speed not above the two block caps and the corner cap
 abbrev pub JunctionFits : Limits → (a b : Block) → ℕ → Type 0
-JunctionFits l a b q = (q ≤ blockCap l a) × (q ≤ blockCap l b) × CornerFits (cornerCap l a b) q
+JunctionFits l a b q = (q ≤ blockCap l a) × (q ≤ blockCap l b) × CapFits (cornerCap l a b) q
 
 -- a peak under the block cap whose rise and fall together stay within the reach
 abbrev pub PeakFits : (cap reach entry exit : ℕ) → ℕ → Type 0

@@ -15,6 +15,7 @@ use Rattle.machine.specs.declared.Limits.{Limits}
 use Rattle.machine.specs.declared.Machine.{Machine}
 use Rattle.machine.specs.declared.Block.{Block}
 use Rattle.machine.specs.declared.Numbers.{Numbers}
+use Rattle.machine.specs.declared.Gauged.{Gauged}
 use Rattle.machine.specs.declared.Ramp.{Ramp}
 
 -- parts of a µm in which a length is counted
@@ -91,6 +92,14 @@ blockCap l b = blockCapFrom l (b .radius) (speedOf l b)
 unfoldable pub numbersOf : Machine → Block → Numbers
 numbersOf m b = record { length = lengthOf b; accel = accelOf m b; reach = reachOf m b; cap = blockCap (m .limits) b }
 
+-- v squared, (µm/s)²
+abbrev pub squareOf : Limits → Block → ℕ
+squareOf l b = speedOf l b * speedOf l b
+
+-- it and a block's numbers, of which the cap may be below it on a curve
+abbrev pub gaugedOf : Machine → Block → Gauged
+gaugedOf m b = record { square = squareOf (m .limits) b; numbers = numbersOf m b }
+
 -- S: the scalar product of two moves, µm². P, the product of their lengths, counts parts of a µm
 abbrev pub dotOf : Block → Block → ℤ
 dotOf a b = (a .x *ℤ b .x) +ℤ (a .y *ℤ b .y) +ℤ (a .z *ℤ b .z)
@@ -99,34 +108,40 @@ dotOf a b = (a .x *ℤ b .x) +ℤ (a .y *ℤ b .y) +ℤ (a .z *ℤ b .z)
 unfoldable pub turnFrom : (product : ℕ) → Block → Block → ℕ
 turnFrom product a b = gapOf product (pos (unit * unit) *ℤ dotOf a b)
 
--- A corner cap, which may be none
-pub data CornerCap : Type 0 where
-  none : CornerCap
-  upTo : ℕ → CornerCap
+-- A cap that may be none, as a corner's
+pub data OpenCap : Type 0 where
+  none : OpenCap
+  upTo : ℕ → OpenCap
 
 -- none without a turn; else the greatest q for which q × 2 × (P - S) stays within J × J × P
-unfoldable pub cornerFrom : (jump product turn : ℕ) → CornerCap
+unfoldable pub cornerFrom : (jump product turn : ℕ) → OpenCap
 cornerFrom jump product zero = none
 cornerFrom jump product (suc turn) = upTo (jump * jump * product / (2 * suc turn))
 
 -- Corner cap between two blocks
-unfoldable pub cornerCap : Limits → Block → Block → CornerCap
+unfoldable pub cornerCap : Limits → Block → Block → OpenCap
 cornerCap l a b = cornerFrom (l .jump) (lengthOf a * lengthOf b) (turnFrom (lengthOf a * lengthOf b) a b)
 
--- a cap under a corner cap
-abbrev pub underCorner : CornerCap → ℕ → ℕ
-underCorner none cap = cap
-underCorner (upTo q) cap = min cap q
+-- a cap under one that may be none
+abbrev pub underCap : OpenCap → ℕ → ℕ
+underCap none cap = cap
+underCap (upTo q) cap = min cap q
 
 -- Junction cap: the least of the caps of both blocks and of their corner
 unfoldable pub junctionCap : Limits → Block → Block → ℕ
-junctionCap l a b = underCorner (cornerCap l a b) (min (blockCap l a) (blockCap l b))
+junctionCap l a b = underCap (cornerCap l a b) (min (blockCap l a) (blockCap l b))
 
 -- the same from two blocks' numbers (of a machine's numbers it is the junction cap: the law `junction-from-numbers`)
 unfoldable pub junctionFrom : (jump : ℕ) (a : Block) (na : Numbers) (b : Block) (nb : Numbers) → ℕ
 junctionFrom jump a na b nb =
     let product = na .length * nb .length in
-    underCorner (cornerFrom jump product (turnFrom product a b)) (min (na .cap) (nb .cap))
+    underCap (cornerFrom jump product (turnFrom product a b)) (min (na .cap) (nb .cap))
+
+-- the corner cap beside the block caps of two blocks with these numbers, as a number: one more than the smaller block cap where it is none or greater
+unfoldable pub cornerBeside : (jump : ℕ) (a : Block) (na : Numbers) (b : Block) (nb : Numbers) → ℕ
+cornerBeside jump a na b nb =
+    let product = na .length * nb .length in
+    underCap (cornerFrom jump product (turnFrom product a b)) (min (na .cap) (nb .cap) + 1)
 
 -- a corner jump, moves and lengths that fit the words in which it is worked out
 pub record Joinable (jump : ℕ) (a : Block) (na : Numbers) (b : Block) (nb : Numbers) : Type 0 where

@@ -2,7 +2,7 @@
 ghost use mathlib.Core.Path.{_≡_};
 ghost use Prim.Native.Nat.{_*_, _^_, _<_};
 ghost use Rattle.machine.specs.Checks.{blockRefusal, movesOf};
-ghost use Rattle.machine.specs.Numbers.{AxesBelow, Joinable, LimitsBelow, cornerFrom, dotOf, junctionCap, junctionFrom, turnFrom, underCorner};
+ghost use Rattle.machine.specs.Numbers.{AxesBelow, Joinable, LimitsBelow, cornerBeside, cornerFrom, dotOf, junctionCap, junctionFrom, turnFrom, underCap};
 use crate::Block;
 use crate::Limits;
 use crate::Numbers;
@@ -42,7 +42,7 @@ fn turn(product: u64, a: Block, b: Block) -> u64
 // A cap, (µm/s)², under the corner cap between two blocks, whose lengths are given.
 pub fn under_corner(cap: u64, jump: u64, a: Block, length_a: u64, b: Block, length_b: u64) -> u64
     requires { ⌜ (jump < 2 ^ 32) × («length_a» < 2 ^ 30) × («length_b» < 2 ^ 30) × AxesBelow (2 ^ 21) (movesOf a) × AxesBelow (2 ^ 21) (movesOf b) ⌝ }
-    ensures { λ r. ⌜ r ≡ underCorner (cornerFrom jump («length_a» * «length_b») (turnFrom («length_a» * «length_b») a b)) cap ⌝ }
+    ensures { λ r. ⌜ r ≡ underCap (cornerFrom jump («length_a» * «length_b») (turnFrom («length_a» * «length_b») a b)) cap ⌝ }
 {
     let product = length_a * length_b;
     capped_quotient(cap, jump * jump, product, 2 * turn(product, a, b))
@@ -57,7 +57,17 @@ pub fn junction_from(jump: u64, a: Block, na: Numbers, b: Block, nb: Numbers) ->
     under_corner(cap, jump, a, na.length, b, nb.length)
 }
 
-// The same between two blocks that pass 2 to 6. No torque plays a part.
+// The corner cap between two blocks, (µm/s)², as a number beside their block caps: one more than the smaller of these where it
+// is greater or none.
+pub fn corner_beside(jump: u64, a: Block, na: Numbers, b: Block, nb: Numbers) -> u64
+    requires { ⌜ Joinable jump a na b nb × (nb .cap < 2 ^ 62) ⌝ }
+    ensures { λ r. ⌜ r ≡ cornerBeside jump a na b nb ⌝ }
+{
+    let cap = smaller(na.cap, nb.cap);
+    under_corner(cap + 1, jump, a, na.length, b, nb.length)
+}
+
+// The junction cap between two blocks that pass 2 to 6. No torque plays a part.
 pub(crate) fn junction_cap(l: Limits, a: Block, b: Block) -> u64
     requires { ⌜ LimitsBelow l × (blockRefusal a ≡ 0) × (blockRefusal b ≡ 0) ⌝ }
     ensures { λ r. ⌜ r ≡ junctionCap l a b ⌝ }

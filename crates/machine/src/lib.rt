@@ -65,6 +65,12 @@ pub struct Numbers {
     pub cap: u64,
 }
 
+// A block's numbers and the square of its speed, (µm/s)², which is its cap but on a curve.
+pub struct Gauged {
+    pub square: u64,
+    pub numbers: Numbers,
+}
+
 // How a block is driven between its entry and its exit.
 pub struct Ramp {
     // greatest squared speed, (µm/s)²

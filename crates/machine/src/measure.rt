@@ -2,11 +2,12 @@
 ghost use mathlib.Core.Path.{_≡_};
 ghost use Prim.Native.Nat.{_*_, _/_, _^_, _≤_, _<_, max};
 ghost use Rattle.machine.specs.Checks.{blockRefusal, movesOf};
-ghost use Rattle.machine.specs.Numbers.{AxesBelow, LimitsBelow, axisLimit, blockCapFrom, chordFactor, eachAxis, lengthFrom, lengthOf, numbersOf, speedOf};
+ghost use Rattle.machine.specs.Numbers.{AxesBelow, LimitsBelow, axisLimit, blockCapFrom, chordFactor, eachAxis, gaugedOf, lengthFrom, lengthOf, numbersOf, peakOf, speedOf};
 ghost use Rattle.machine.specs.Ranges.{mostAccel, mostFeed, mostRadius};
 ghost use Rattle.machine.specs.Torque.{torquePercent};
 use crate::Axes;
 use crate::Block;
+use crate::Gauged;
 use crate::Limits;
 use crate::Machine;
 use crate::Numbers;
@@ -110,10 +111,10 @@ pub fn speed_of(l: Limits, b: Block, length: u64) -> u64
     each_axis(b.feed, speeds, length, moves_of(b))
 }
 
-// All numbers of a block that passes 2 to 6.
-pub fn numbers(m: Machine, b: Block) -> Numbers
+// All numbers of a block that passes 2 to 6, and the square of its speed.
+pub fn gauge(m: Machine, b: Block) -> Gauged
     requires { ⌜ LimitsBelow (m .limits) × (blockRefusal b ≡ 0) ⌝ }
-    ensures { λ r. ⌜ r ≡ numbersOf m b ⌝ }
+    ensures { λ r. ⌜ r ≡ gaugedOf m b ⌝ }
 {
     let l = m.limits;
     let moves = moves_of(b);
@@ -122,10 +123,30 @@ pub fn numbers(m: Machine, b: Block) -> Numbers
     let accels = l.accel;
     let most = each_axis(2 * MOST_ACCEL, accels, length, moves);
     let accel = accel_of(most, m.torque, speed);
-    Numbers {
-        length: length,
-        accel: accel,
-        reach: 2 * accel * length / UNIT,
-        cap: block_cap(l, b.radius, speed),
+    Gauged {
+        square: speed * speed,
+        numbers: Numbers {
+            length: length,
+            accel: accel,
+            reach: 2 * accel * length / UNIT,
+            cap: block_cap(l, b.radius, speed),
+        },
     }
+}
+
+// The numbers alone.
+pub fn numbers(m: Machine, b: Block) -> Numbers
+    requires { ⌜ LimitsBelow (m .limits) × (blockRefusal b ≡ 0) ⌝ }
+    ensures { λ r. ⌜ r ≡ numbersOf m b ⌝ }
+{
+    let g = gauge(m, b);
+    g.numbers
+}
+
+// The peak of a block with these numbers between two squared speeds, (µm/s)².
+pub fn peak_of(n: Numbers, entry: u64, exit: u64) -> u64
+    requires { ⌜ (n .reach < 2 ^ 62) × (entry < 2 ^ 62) × (exit < 2 ^ 62) ⌝ }
+    ensures { λ r. ⌜ r ≡ peakOf (n .cap) (n .reach) entry exit ⌝ }
+{
+    smaller(n.cap, (n.reach + entry + exit) / 2)
 }

@@ -4,12 +4,12 @@ ghost use mathlib.Core.Bool.{cond};
 ghost use Rattle.machine.specs.Numbers.{Rampable, noRamp, rampOf, rampable, sized};
 ghost use Rattle.line.specs.Answers.{givenBetween};
 use arith::whole::less;
-use arith::whole::smaller;
 use line::Given;
 use machine::Block;
 use machine::Numbers;
 use machine::Ramp;
 use machine::measure::UNIT;
+use machine::measure::peak_of;
 
 // The ramp. Only a plan's speeds meet what is required of entry and exit. Half of the divisor, or one less, is added before a
 // division: so up is the nearest with an exact half down, and down the nearest with an exact half up.
@@ -17,7 +17,7 @@ fn ramp(n: Numbers, entry: u64, exit: u64) -> Ramp
     requires { ⌜ Rampable n entry exit ⌝ }
     ensures { λ r. ⌜ r ≡ rampOf n entry exit ⌝ }
 {
-    let peak = smaller(n.cap, (n.reach + entry + exit) / 2);
+    let peak = peak_of(n, entry, exit);
     let accel = n.accel;
     let up = (UNIT * (peak - entry) + accel - 1) / (2 * accel);
     let down = (UNIT * (peak - exit) + accel) / (2 * accel);

@@ -8,12 +8,12 @@ use Rattle.profile.specs.Line.{Span, Highest}
 use Rattle.profile.specs.Passes.{planOf}
 use mathlib.Core.Bool.{cond}
 use Rattle.display.specs.Display.{refusalNumber, Fault, byNumber, _then_, _at_, _else_}
-use Rattle.tape.specs.Answers.{faultFrom, headRefusal}
+use Rattle.tape.specs.Answers.{faultFrom, headRefusal, mostBlocks}
 use Rattle.machine.specs.Line.{spansOf}
 use Rattle.machine.specs.Torque.{machineOf, stepsRefusal}
 use Rattle.machine.specs.declared.Machine.{Machine}
 use Rattle.tape.specs.Tape.{recordsIn, tapeLimits, tapeBlocks}
-use Rattle.tapeplan.specs.Sheet.{Measures, SheetAfter}
+use Rattle.tapeplan.specs.Sheet.{Measures, SheetAfter, over}
 use Rattle.tapeplan.specs.declared.TapePlanned.{TapePlanned}
 use Rattle.tapeplan.specs.declared.TapePlanned.the-variants.{Planned, Refused}
 
@@ -68,6 +68,17 @@ pub record SurveyedTape (s loaded sheet before after : List ℕ) (r : TapePlanne
 pub record MeasuredTape (s loaded sheet sheet′ before after : List ℕ) (r : TapePlanned) : Type 0 where
   pub planned : PlannedTape s loaded before after r
   pub sheet-after : SheetAfter (tapeMachine s loaded) s (planFault s loaded (length before) .number) sheet sheet′
+
+-- junctions of the longest tape
+abbrev pub mostJunctions : ℕ
+mostJunctions = mostBlocks + 1
+
+-- The same with a list that has room for the plan of any tape, so that 11 is never given: the plan stands at its beginning; of a tape that is refused
+-- all of it is as it was.
+pub record WholeTape (s loaded sheet sheet′ before after : List ℕ) (r : TapePlanned) : Type 0 where
+  pub fault : plannedMeans r ≡ wholeFault s loaded
+  pub list : after ≡ byNumber (wholeRefusal s loaded) (over (tapePlan s loaded) before) before
+  pub sheet-after : SheetAfter (tapeMachine s loaded) s (wholeRefusal s loaded) sheet sheet′
 
 -- Demand 3 of an accepted tape with accepted torque steps, from rest to rest, in a list one longer than its blocks: the tape is planned, the list
 -- is the plan of its blocks, so a lawful profile exists, the list is one, and no lawful profile is above it anywhere

@@ -1,20 +1,19 @@
 -- The sheet of a survey: what is measured of each block, as a row of numbers in a list.
 use mathlib.Core.Path.{_≡_}
 use mathlib.Core.List.{List, _++_}
-use Prim.Native.Nat.{ℕ, _+_, _*_, _/_, _<_}
+use Prim.Native.Nat.{ℕ, zero, suc, _+_, _*_, _/_, _<_}
 use lib.ListN.{length, drop}
 use Rattle.profile.specs.Line.{numberAt}
-use Rattle.machine.specs.Numbers.{numbersOf}
-use Rattle.machine.specs.declared.Block.{Block}
+use Rattle.machine.specs.Caps.{cornerBetween}
+use Rattle.machine.specs.Numbers.{numbersOf, squareOf}
 use Rattle.machine.specs.declared.Machine.{Machine}
-use Rattle.machine.specs.declared.Numbers.{Numbers}
 use Rattle.tape.specs.Answers.{mostBlocks}
 use Rattle.tape.specs.Tape.{recordAt, recordsIn}
 use Rattle.tapeplan.specs.declared.Measured.{Measured}
 
--- numbers of a row: mark, length, acceleration, reach and cap
+-- numbers of a row: mark, length, acceleration, reach, cap, v squared, and the corner cap where the block begins
 abbrev pub rowSize : ℕ
-rowSize = 5
+rowSize = 7
 
 -- numbers of a sheet with a row for each block of the longest tape
 abbrev pub sheetSize : ℕ
@@ -35,20 +34,33 @@ measuredAt sheet k =
             reach = numberAt sheet (rowSize * k + 3);
             cap = numberAt sheet (rowSize * k + 4);
           };
+      square = numberAt sheet (rowSize * k + 5);
+      corner = numberAt sheet (rowSize * k + 6);
     }
 
--- what is measured of a block
-abbrev pub measuredOf : Machine → Block → Measured
-measuredOf m b = record { mark = b .mark; numbers = numbersOf m b }
+-- the corner cap where block k of a tape begins, as a number beside the block caps of that junction; 0 for the first block, of which it is never read
+unfoldable pub cornerAt : Machine → (s : List ℕ) (k : ℕ) → ℕ
+cornerAt m s zero = 0
+cornerAt m s (suc k) = cornerBetween (m .limits) (recordAt s k) (recordAt s (suc k))
+
+-- what is measured of block k of a tape
+abbrev pub measuredOf : Machine → (s : List ℕ) (k : ℕ) → Measured
+measuredOf m s k =
+    record {
+      mark = recordAt s k .mark;
+      numbers = numbersOf m (recordAt s k);
+      square = squareOf (m .limits) (recordAt s k);
+      corner = cornerAt m s k;
+    }
 
 -- the first k blocks of a tape are in the sheet, as far as it has rows
 abbrev pub Measures : Machine → (s sheet : List ℕ) (k : ℕ) → Type 0
-Measures m s sheet k = (i : ℕ) → i < k → i < rowsIn sheet → measuredAt sheet i ≡ measuredOf m (recordAt s i)
+Measures m s sheet k = (i : ℕ) → i < k → i < rowsIn sheet → measuredAt sheet i ≡ measuredOf m s i
 
 -- row k is stored where the sheet has one, and the rows before it stay
-pub record Keeps (before : List ℕ) (k mark : ℕ) (n : Numbers) (after : List ℕ) : Type 0 where
+pub record Keeps (before : List ℕ) (k : ℕ) (row : Measured) (after : List ℕ) : Type 0 where
   pub sized : length after ≡ length before
-  pub row : k < rowsIn before → measuredAt after k ≡ record { mark = mark; numbers = n }
+  pub kept : k < rowsIn before → measuredAt after k ≡ row
   pub others : (i : ℕ) → i < k → measuredAt after i ≡ measuredAt before i
 
 -- a list over the beginning of another
@@ -59,6 +71,6 @@ over from to = from ++ drop (length from) to
 -- of a tape that is planned, and behind these rows it is what it was; of a tape that is refused all of it is
 pub record SheetAfter (m : Machine) (s : List ℕ) (refusal : ℕ) (before after : List ℕ) : Type 0 where
   pub sized : length after ≡ length before
-  pub rows : refusal ≡ 0 → (k : ℕ) → k < recordsIn s → measuredAt after k ≡ measuredOf m (recordAt s k)
+  pub rows : refusal ≡ 0 → (k : ℕ) → k < recordsIn s → measuredAt after k ≡ measuredOf m s k
   pub behind : refusal ≡ 0 → drop (rowSize * recordsIn s) after ≡ drop (rowSize * recordsIn s) before
   pub kept : 0 < refusal → after ≡ before

@@ -1,21 +1,29 @@
-// The junction caps of a line of blocks.
+// The corner and the cap of the junction where a block begins.
 ghost use mathlib.Core.Path.{_≡_};
-ghost use Prim.Native.Nat.{_<_};
+ghost use Prim.Native.Nat.{_<_, _^_, min};
 ghost use lib.Dec.{eqb};
 ghost use mathlib.Core.Bool.{cond};
-ghost use Rattle.machine.specs.Numbers.{Joinable, junctionFrom};
+ghost use Rattle.machine.specs.Numbers.{Joinable, cornerBeside};
+use arith::whole::smaller;
 use machine::Block;
 use machine::Numbers;
-use machine::corner::junction_from;
+use machine::corner::corner_beside;
 
-// The cap of the junction where block k begins, (µm/s)²: 0 for the first, which is never read, else the junction cap
-// between the block before and this one, from their numbers.
-pub fn cap_of(k: usize, jump: u64, before: Block, known: Numbers, b: Block, n: Numbers) -> u64
-    requires { ⌜ (0 < k → Joinable jump before known b n) ⌝ }
-    ensures { λ r. ⌜ r ≡ cond (eqb k 0) 0 (junctionFrom jump before known b n) ⌝ }
+// The corner cap where block k begins, (µm/s)², as a number beside the block caps of both blocks: 0 for the first, which is
+// never read.
+pub fn corner_of(k: usize, jump: u64, before: Block, known: Numbers, b: Block, n: Numbers) -> u64
+    requires { ⌜ (0 < k → Joinable jump before known b n) × (n .cap < 2 ^ 62) ⌝ }
+    ensures { λ r. ⌜ r ≡ cond (eqb k 0) 0 (cornerBeside jump before known b n) ⌝ }
 {
     if k == 0 {
         return 0;
     }
-    junction_from(jump, before, known, b, n)
+    corner_beside(jump, before, known, b, n)
+}
+
+// The cap of the junction between two blocks with these numbers and this corner cap.
+pub fn cap_of(known: Numbers, n: Numbers, corner: u64) -> u64
+    ensures { λ r. ⌜ r ≡ min (min (known .cap) (n .cap)) corner ⌝ }
+{
+    smaller(smaller(known.cap, n.cap), corner)
 }

@@ -15,8 +15,11 @@ pub enum TapePlanned {
     Refused(Refusal, usize),
 }
 
-// What is measured of a block: its mark and its numbers.
+// What is measured of a block: its mark, its numbers, the square of its speed, (µm/s)², and the corner cap where it begins, as
+// a number beside the block caps of that junction (`machine::corner::corner_beside`); 0 for the first block.
 pub struct Measured {
     pub mark: u64,
     pub numbers: Numbers,
+    pub square: u64,
+    pub corner: u64,
 }

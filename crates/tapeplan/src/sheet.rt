@@ -1,4 +1,4 @@
-// The sheet of a survey: a row of five numbers for each block, in a list that is lent. A block that has no row in it is not
+// The sheet of a survey: a row of seven numbers for each block, in a list that is lent. A block that has no row in it is not
 // kept, so that who needs no sheet lends an empty list.
 ghost use mathlib.Core.Path.{_≡_};
 ghost use Prim.Native.Nat.{_<_, _≤_};
@@ -8,24 +8,28 @@ use crate::Measured;
 use machine::Numbers;
 use tape::MOST_BLOCKS;
 
-// Numbers of a row: the block's mark, its length, acceleration, reach and cap.
-pub const ROW: usize = 5;
+// Numbers of a row: the block's mark, its length, acceleration, reach and cap, the square of its speed, and the corner cap
+// where it begins.
+pub const ROW: usize = 7;
 // Numbers of a sheet with a row for each block of the longest tape.
 pub const SHEET: usize = ROW * MOST_BLOCKS;
 
 // Keeps what is measured of block k as row k, where the sheet has one.
-pub(crate) fn keep(sheet: &mut [u64], k: usize, mark: u64, n: Numbers)
-    ensures { λ r. ⌜ Keeps (now (sheet .entry)) k mark n (now (sheet .exit)) ⌝ }
+pub(crate) fn keep(sheet: &mut [u64], k: usize, row: Measured)
+    ensures { λ r. ⌜ Keeps (now (sheet .entry)) k row (now (sheet .exit)) ⌝ }
 {
     if sheet.len() / ROW <= k {
         return;
     }
     let at = ROW * k;
-    sheet[at] = mark;
+    let n = row.numbers;
+    sheet[at] = row.mark;
     sheet[at + 1] = n.length;
     sheet[at + 2] = n.accel;
     sheet[at + 3] = n.reach;
     sheet[at + 4] = n.cap;
+    sheet[at + 5] = row.square;
+    sheet[at + 6] = row.corner;
 }
 
 // Copies a list over the beginning of another.
@@ -54,5 +58,7 @@ pub fn measured_at(sheet: &[u64], k: usize) -> Measured
             reach: sheet[at + 3],
             cap: sheet[at + 4],
         },
+        square: sheet[at + 5],
+        corner: sheet[at + 6],
     }
 }

@@ -5,12 +5,14 @@ ghost use lib.ListN.{length};
 ghost use Rattle.machine.specs.Numbers.{LimitsBelow};
 ghost use Rattle.tape.specs.Tape.{recordsIn};
 ghost use Rattle.tapeplan.specs.Survey.{Surveyed};
+use crate::Measured;
 use crate::junctions::cap_of;
+use crate::junctions::corner_of;
 use crate::sheet::keep;
 use machine::Machine;
 use machine::Numbers;
 use machine::blocks::no_block;
-use machine::measure::numbers;
+use machine::measure::gauge;
 use tape::RecordRead;
 use tape::TapeCheck;
 use tape::records::record_at;
@@ -42,9 +44,20 @@ pub fn survey(
             RecordRead::Refused(why) => return TapeCheck::Refused(why, k + 1),
             RecordRead::Read(b) => b,
         };
-        let n = numbers(m, b);
-        keep(sheet, k, b.mark, n);
-        caps[k] = cap_of(k, m.limits.jump, before, known, b, n);
+        let gauged = gauge(m, b);
+        let n = gauged.numbers;
+        let corner = corner_of(k, m.limits.jump, before, known, b, n);
+        keep(
+            sheet,
+            k,
+            Measured {
+                mark: b.mark,
+                numbers: n,
+                square: gauged.square,
+                corner: corner,
+            },
+        );
+        caps[k] = cap_of(known, n, corner);
         reaches[k] = n.reach;
         before = b;
         known = n;

@@ -3,7 +3,7 @@ ghost use mathlib.Core.Path.{_≡_};
 ghost use lib.ListN.{length};
 ghost use Rattle.tape.specs.Answers.{headRefusal};
 ghost use Rattle.tape.specs.Tape.{tapeLimits};
-ghost use Rattle.tapeplan.specs.Planned.{MeasuredTape, PlannedTape, SurveyedTape};
+ghost use Rattle.tapeplan.specs.Planned.{MeasuredTape, PlannedTape, SurveyedTape, WholeTape, mostJunctions};
 ghost use Rattle.tapeplan.specs.Sheet.{sheetSize};
 use crate::TapePlanned;
 use crate::passes::plan_into;
@@ -11,6 +11,7 @@ use crate::sheet::ROW;
 use crate::sheet::SHEET;
 use crate::sheet::copy;
 use crate::survey::survey;
+use arith::whole::fewer;
 use display::Refusal;
 use machine::Limits;
 use machine::MachineAnswer;
@@ -20,6 +21,9 @@ use tape::MOST_BLOCKS;
 use tape::TapeCheck;
 use tape::records::records_in;
 use tape::whole::read_head;
+
+// Junctions of the longest tape.
+pub const JUNCTIONS: usize = MOST_BLOCKS + 1;
 
 // Plans the records of a tape whose limits have been read, with the steps that are loaded: 14, each record in turn, then 11.
 fn plan_records(
@@ -76,17 +80,27 @@ fn plan_copied(s: &[u8], steps: &[u8], sheet: &mut [u64], list: &mut [u64]) -> T
     }
 }
 
-// Plans a tape as `plan_tape` does, and stores what is measured of each of its blocks, a row for each, at the beginning of
-// the lent sheet; on a refusal the sheet too holds what it held.
-pub fn plan_measured(
+// The same with room for the plan of any tape: as much of the plan as the tape has junctions is lent.
+fn plan_within(s: &[u8], steps: &[u8], sheet: &mut [u64], plan: &mut [u64]) -> TapePlanned
+    requires { ⌜ (length (now sheet) ≡ sheetSize) × (length (now plan) ≡ mostJunctions) ⌝ }
+    ensures { λ r. ⌜ WholeTape (now (s .entry)) (now (steps .entry)) (now (sheet .entry)) (now (sheet .exit)) (now (plan .entry)) (now (plan .exit)) r ⌝ }
+{
+    let junctions = fewer(records_in(s), MOST_BLOCKS) + 1;
+    plan_copied(s, steps, sheet, &mut plan[..junctions])
+}
+
+// Plans a tape as `plan_tape` does, but into a list that has room for the plan of any tape, so that 11 is never given: the
+// plan stands at its beginning. What is measured of each block is stored, a row for each, at the beginning of the lent sheet.
+// On a refusal both lists hold what they held.
+pub fn plan_whole(
     s: &[u8],
     steps: &[u8],
     sheet: &mut [u64; SHEET],
-    list: &mut [u64],
+    plan: &mut [u64; JUNCTIONS],
 ) -> TapePlanned
-    ensures { λ r. ⌜ MeasuredTape (now (s .entry)) (now (steps .entry)) (now (sheet .entry)) (now (sheet .exit)) (now (list .entry)) (now (list .exit)) r ⌝ }
+    ensures { λ r. ⌜ WholeTape (now (s .entry)) (now (steps .entry)) (now (sheet .entry)) (now (sheet .exit)) (now (plan .entry)) (now (plan .exit)) r ⌝ }
 {
-    plan_copied(s, steps, sheet, list)
+    plan_within(s, steps, sheet, plan)
 }
 
 // Fills the lent list with the highest lawful profile of the tape's blocks from rest to rest, one number for each

@@ -2,7 +2,7 @@
 use mathlib.Core.Path.{ap, _∙_}
 use Prim.Native.Nat.{_*_}
 use borrow.Author.Needs.{needs}
-use Rattle.machine.specs.Numbers.{turnFrom, cornerFrom, underCorner, junctionFrom}
+use Rattle.machine.specs.Numbers.{turnFrom, cornerFrom, underCap, junctionFrom}
 use Rattle.machine.proofs.corner.junction_from.Statement.{statement}
 use Rattle.machine.proofs.corner.junction_from.Tie as tie
 
@@ -16,7 +16,7 @@ unfolding junctionFrom
 returns c =
     let a = c .before .before .args in
     let product = a .na .length * a .nb .length in
-    c .under-corner .ensures ∙ ap (underCorner (cornerFrom (a .jump) product (turnFrom product (a .a) (a .b)))) (c .before .smaller .ensures)
+    c .under-corner .ensures ∙ ap (underCap (cornerFrom (a .jump) product (turnFrom product (a .a) (a .b)))) (c .before .smaller .ensures)
 
 pub junction-from-spec : {M : Type 1} → statement M
 junction-from-spec = tie.close (tie.spec (λ c κs. search needs) under-corner-requires returns)
