@@ -6,17 +6,16 @@ use Prim.Native.Nat.{ℕ, zero, suc, _+_, _-_, _*_, _≤_, _<_}
 use native.Mathlib.Decide.{decLt}
 use native.Mathlib.Nat.{add-zero, zero-add}
 use native.Mathlib.Omega.{arith}
-use lib.ListN.{length, drop, length-append, List·getD-append}
+use lib.ListN.{length, length-append}
 use Rattle.profile.specs.Line.{numberAt}
 use Rattle.display.specs.Display.{refusalNumber, Fault}
 use Rattle.tape.specs.Answers.{mostBlocks, tapeRefusal}
-use Rattle.display.proofs.Answers.{at-zero}
 use Rattle.tapeplan.specs.Planned.{plannedMeans, tapePlan, wholeRefusal}
 use Rattle.tapeplan.proofs.Answered.{whole-passed}
-use Rattle.tapeplan.proofs.Plans.{accepted-junctions, accepted-records}
+use Rattle.tapeplan.proofs.Plans.{accepted-records}
+use Rattle.tapeplan.proofs.Wholes.{plan-front}
 use Rattle.display.specs.declared.Refusal.{Refusal}
 use Rattle.text.specs.Text.{header, refusedAt, refusedWords}
-use Rattle.text.specs.Store.{put}
 use Rattle.text.proofs.Lines.{length-line}
 use Rattle.tape.specs.Tape.{recordsIn}
 use Rattle.tapeplan.specs.declared.TapePlanned.{TapePlanned}
@@ -60,10 +59,7 @@ module _ (s loaded before sheet : List ℕ) (listing : Listing) (from : ListingF
     own = whole-passed s loaded passed .0
 
     plan-same : (k : ℕ) → k ≤ recordsIn s → numberAt (listing .plan) k ≡ numberAt (tapePlan s loaded) k
-    unfolding put
-    plan-same k h =
-        ap (λ (t : List ℕ). numberAt t k) (from .plan ∙ ap (put noPlan 0) (at-zero (tapePlan s loaded) [] passed))
-        ∙ List·getD-append (tapePlan s loaded) (drop (0 + length (tapePlan s loaded)) noPlan) 0 k (omega (arith, accepted-junctions s loaded own))
+    plan-same = plan-front s loaded noPlan passed (from .plan)
 
     count : listing .blocks ≡ recordsIn s
     count = omega (arith, from .blocks, accepted-records s own)

@@ -11,12 +11,11 @@ use Rattle.display.specs.Display.{refusalNumber, byNumber}
 use Rattle.tape.specs.Tape.{recordsIn}
 use Rattle.tape.specs.Answers.{mostBlocks}
 use Rattle.tapeplan.specs.Planned.{mostJunctions, plannedMeans, tapeMachine, tapePlan, wholeFault, wholeRefusal}
-use Rattle.tapeplan.specs.Sheet.{SheetAfter, measuredAt}
+use Rattle.tapeplan.specs.Sheet.{SheetAfter, measuredAt, over}
 use Rattle.machine.specs.Labels.{plainBlock}
 use Rattle.machine.specs.declared.Block.{Block}
 use Rattle.line.specs.Answers.{givenBetween}
 use Rattle.text.specs.Text.{header, refusedAt}
-use Rattle.text.specs.Store.{put}
 use Rattle.listing.specs.Given.{givenText, mostGiven}
 use Rattle.tapeplan.specs.declared.TapePlanned.{TapePlanned}
 use Rattle.tapeplan.specs.declared.TapePlanned.the-variants.{Planned, Refused}
@@ -89,5 +88,5 @@ noPlan = replicate mostJunctions 0
 pub record ListingFrom (s loaded before after : List ℕ) (listing : Listing) : Type 0 where
   pub fault : plannedMeans (listing .answer) ≡ wholeFault s loaded
   pub blocks : listing .blocks ≡ min (recordsIn s) mostBlocks
-  pub plan : listing .plan ≡ put noPlan 0 (byNumber (wholeRefusal s loaded) (tapePlan s loaded) [])
+  pub plan : listing .plan ≡ byNumber (wholeRefusal s loaded) (over (tapePlan s loaded) noPlan) noPlan
   pub sheet-after : SheetAfter (tapeMachine s loaded) s (wholeRefusal s loaded) before after

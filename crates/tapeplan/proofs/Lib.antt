@@ -7,4 +7,5 @@ pub mod LentLaws
 pub mod Plans
 pub mod Sheets
 pub mod Surveys
+pub mod Wholes
 mod Cases

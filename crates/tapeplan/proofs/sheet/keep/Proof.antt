@@ -7,10 +7,10 @@ use Rattle.tapeplan.proofs.sheet.keep.Statement.{statement}
 use Rattle.tapeplan.proofs.sheet.keep.Tie as tie
 
 returns : tie.Need-returns
-returns c = row-left _ _ _ _ (c .if1 .taken)
+returns c = row-left _ _ _ (c .if1 .taken)
 
 returns-2 : tie.Need-returns-2
-returns-2 c = let a = c .before .args in row-kept (a .sheet .now) (a .k) (a .mark) (a .n) (omega (arith, c .if1 .left))
+returns-2 c = let a = c .before .before .args in row-kept (a .sheet .now) (a .k) (a .row) (omega (arith, c .before .if1 .left))
 
 pub keep-spec : {M : Type 1} → statement M
 keep-spec =
@@ -22,15 +22,21 @@ keep-spec =
     (λ c. search needs)
     (λ c. search needs)
     (λ c. search needs)
-    (λ c. simp length-set (omega (arith, c .if1 .left)))
+    (λ c. simp length-set (omega (arith, c .before .if1 .left)))
     (λ c. search needs)
     (λ c. search needs)
-    (λ c. simp length-set (omega (arith, c .if1 .left)))
+    (λ c. simp length-set (omega (arith, c .before .if1 .left)))
     (λ c. search needs)
     (λ c. search needs)
-    (λ c. simp length-set (omega (arith, c .if1 .left)))
+    (λ c. simp length-set (omega (arith, c .before .if1 .left)))
     (λ c. search needs)
     (λ c. search needs)
-    (λ c. simp length-set (omega (arith, c .if1 .left)))
+    (λ c. simp length-set (omega (arith, c .before .if1 .left)))
+    (λ c. search needs)
+    (λ c. search needs)
+    (λ c. simp length-set (omega (arith, c .before .if1 .left)))
+    (λ c. search needs)
+    (λ c. search needs)
+    (λ c. simp length-set (omega (arith, c .before .if1 .left)))
     (λ c. search needs)
     returns-2)

@@ -6,7 +6,11 @@ use native.Mathlib.Nat.{not-suc-le-zero}
 use native.Mathlib.Omega.{arith}
 use lib.ListN.{length, length-set}
 use Rattle.machine.specs.Checks.{blockRefusal}
+use Rattle.machine.specs.Numbers.{numbersOf}
 use Rattle.machine.specs.declared.Block.{Block}
+use Rattle.machine.specs.declared.Gauged.{Gauged}
+use Rattle.machine.specs.declared.Numbers.{Numbers}
+use Rattle.machine.proofs.CapLaws.{block-cap-below}
 use Rattle.tape.specs.Tape.{recordAt, recordsIn}
 use Rattle.tape.specs.Answers.{recordMeans, checkRecords}
 use Rattle.display.specs.Display.{Fault, _at_, given}
@@ -92,39 +96,51 @@ returns c =
       measured = λ z. absurd (omega (arith, r .0, sym z ∙ ap (λ (f : Fault). f .number) fault));
     }
 
-numbers-requires : tie.Need-numbers-requires Inv-loop μ-loop
-numbers-requires c κs = (start (turn (read c)) .pre .0, passes c .1)
+gauge-requires : tie.Need-gauge-requires Inv-loop μ-loop
+gauge-requires c κs = (start (turn (read c)) .pre .0, passes c .1)
 
-cap-of-requires : tie.Need-cap-of-requires Inv-loop μ-loop
-cap-of-requires c κs =
-    let n = c .before .before .before .before in
-    let p = n .before in
+corner-of-requires : tie.Need-corner-of-requires Inv-loop μ-loop
+unfolding numbersOf
+corner-of-requires c κs =
+    let gauged = c .before in
+    let p = gauged .before in
+    let a = start (turn (read p)) .args in
     let known = turn (read p) .loop .inv .4 .previous in
-    λ z. known-joinable (start (turn (read p)) .args .m) (bytes (turn (read p))) (start (turn (read p)) .pre .0) (known z) (passes p .1) (n .numbers .ensures)
+    let numbers = ap (λ (g : Gauged). g .numbers) (gauged .gauge .ensures) in (
+      λ z. known-joinable (a .m) (bytes (turn (read p))) (start (turn (read p)) .pre .0) (known z) (passes p .1) numbers,
+      omega (arith, ap (λ (n : Numbers). n .cap) numbers, block-cap-below (a .m .limits) (block p) (passes p .1)),
+    )
 
--- the list's bytes can be counted
-counted : (c : tie.After-cap-of Inv-loop μ-loop) → k (read (c .before .before .before .before .before .before)) * 8 < 2 ^ 64
-counted c = let r = read (c .before .before .before .before .before .before) in omega (arith, r .before .loop-test .taken, turn r .loop .inv .5)
+-- a turn whose cap is worked out
+module _ (c : tie.After-cap-of Inv-loop μ-loop) where
+  abbrev kept : tie.After-keep Inv-loop μ-loop
+  kept = c .before .before .before
 
-slice-write-caps : tie.Need-slice-write-caps Inv-loop μ-loop
-slice-write-caps c = within (c .before .before .before .before .before .before) .0
+  abbrev cornered : tie.After-corner-of Inv-loop μ-loop
+  cornered = kept .before .before
 
-slice-write-reaches : tie.Need-slice-write-reaches Inv-loop μ-loop
-slice-write-reaches c = within (c .before .before .before .before .before .before) .1
+  abbrev gauged : tie.After-gauge Inv-loop μ-loop
+  gauged = cornered .before .before
+
+  abbrev passed : tie.After-known-told2 Inv-loop μ-loop
+  passed = gauged .before
+
+  -- the list's bytes can be counted
+  counted : k (read passed) * 8 < 2 ^ 64
+  counted = omega (arith, read passed .before .loop-test .taken, turn (read passed) .loop .inv .5)
 
 loop-again : tie.Need-loop-again Inv-loop μ-loop
 loop-again c =
-    let kept = c .before .before .before in
-    let n = kept .before .before in
-    let p = n .before in
+    let p = passed c in
     let loop = turn (read p) in
-    let now = loop .loop in (
+    let now = loop .loop in
+    let gauge = gauged c .gauge in (
       omega (arith, read p .before .loop-test .taken),
-      kept .keep .ensures .sized ∙ now .inv .1,
+      kept c .keep .ensures .sized ∙ now .inv .1,
       length-set (now .caps) (now .k) (c .cap-of .result) ∙ now .inv .2,
-      length-set (now .reaches) (now .k) (n .numbers .result .reach) ∙ now .inv .3,
-      survey-next (start loop .args .m) (bytes loop) (now .k) (block p) (n .numbers .result) (c .cap-of .result) (now .inv .4)
-          (here (read p)) (within p .0) (within p .1) (sym (passes p .0)) (passes p .1) (n .numbers .ensures) (kept .keep .ensures) (c .cap-of .ensures),
+      length-set (now .reaches) (now .k) (gauge .result .numbers .reach) ∙ now .inv .3,
+      survey-next (start loop .args .m) (bytes loop) (now .k) (block p) (gauge .result) (cornered c .corner-of .result) (c .cap-of .result) (now .inv .4)
+          (here (read p)) (within p .0) (within p .1) (sym (passes p .0)) (passes p .1) (gauge .ensures) (cornered c .corner-of .ensures) (kept c .keep .ensures) (c .cap-of .ensures),
       now .inv .5,
     )
 
@@ -158,13 +174,14 @@ survey-spec =
     (λ c. search needs)
     returns
     (λ c. search needs)
-    numbers-requires
+    gauge-requires
+    corner-of-requires
     (λ c κs. search needs)
-    cap-of-requires
+    (λ c κs. search needs)
     (λ c. record { fits = counted c })
-    slice-write-caps
+    (λ c. within (passed c) .0)
     (λ c. record { fits = counted c })
-    slice-write-reaches
+    (λ c. within (passed c) .1)
     (λ c. search needs)
     (λ c. search needs)
     loop-again

@@ -1,0 +1,76 @@
+-- A tape planned in a list with room for any plan: the plan is over its beginning, and 11 is never given. From the laws of a tape's faults.
+use mathlib.Core.Path.{_≡_, refl, sym, ap, subst, _∙_}
+use mathlib.Core.List.{List, _++_}
+use Prim.Native.Nat.{ℕ, zero, suc, _+_, _≤_, _<_, min}
+use native.Mathlib.Omega.{arith}
+use borrow.Author.Tests.{eq-eqb}
+use mathlib.Core.Bool.{cond}
+use lib.ListN.{length, take, drop, take-append-drop, List·getD-append}
+use lib.Seq.{length-take-le}
+use Rattle.profile.specs.Line.{numberAt}
+use Rattle.display.specs.Display.{Fault, _at_, byNumber}
+use Rattle.display.proofs.Answers.{at-zero, above-zero}
+use Rattle.tape.specs.Answers.{mostBlocks, tapeRefusal}
+use Rattle.tape.specs.Tape.{recordsIn}
+use Rattle.tapeplan.specs.Planned.{MeasuredTape, WholeTape, mostJunctions, planFault, tapeMachine, tapePlan, wholeFault, wholeRefusal}
+use Rattle.tapeplan.specs.Sheet.{SheetAfter, over}
+use Rattle.tapeplan.specs.declared.TapePlanned.{TapePlanned}
+use Rattle.tapeplan.proofs.Answered.{whole-faultless, whole-passed}
+use Rattle.tapeplan.proofs.Plans.{accepted-junctions, accepted-records}
+
+module _ (s loaded : List ℕ) where
+  -- a list with a number for each junction, as far as the longest tape has them, is never at fault
+  abbrev lent : ℕ
+  lent = min (recordsIn s) mostBlocks + 1
+
+  junctions : wholeRefusal s loaded ≡ 0 → lent ≡ recordsIn s + 1
+  junctions z = omega (arith, accepted-records s (whole-passed s loaded z .0))
+
+  fault-same : planFault s loaded lent ≡ wholeFault s loaded
+  unfolding planFault
+  fault-same = go (wholeRefusal s loaded) refl
+    where
+      go : (n : ℕ) → wholeRefusal s loaded ≡ n → planFault s loaded lent ≡ wholeFault s loaded
+      go zero z =
+          at-zero _ (wholeFault s loaded) z ∙ ap (λ t. cond t 0 11 at 0) (eq-eqb lent (recordsIn s + 1) (junctions z))
+          ∙ sym (whole-faultless s loaded (whole-passed s loaded z .0) (whole-passed s loaded z .1))
+      go (suc n) z = let above : 0 < wholeRefusal s loaded = omega arith in above-zero _ (wholeFault s loaded) above
+
+  -- so planning in the front of a list leaves the plan over its beginning, or nothing
+  plan-over : (before : List ℕ) {planned : List ℕ} → planned ≡ byNumber (wholeRefusal s loaded) (tapePlan s loaded) (take lent before)
+      → planned ++ drop lent before ≡ byNumber (wholeRefusal s loaded) (over (tapePlan s loaded) before) before
+  plan-over before {planned} e = go (wholeRefusal s loaded) refl
+    where
+      go : (n : ℕ) → wholeRefusal s loaded ≡ n → planned ++ drop lent before ≡ byNumber (wholeRefusal s loaded) (over (tapePlan s loaded) before) before
+      go zero z =
+          let size : lent ≡ length (tapePlan s loaded) = omega (arith, accepted-junctions s loaded (whole-passed s loaded z .0), junctions z) in
+          (λ i. (e ∙ at-zero (tapePlan s loaded) (take lent before) z) i ++ drop (size i) before)
+          ∙ sym (at-zero (over (tapePlan s loaded) before) before z)
+      go (suc n) z =
+          let above : 0 < wholeRefusal s loaded = omega arith in
+          ap (λ (t : List ℕ). t ++ drop lent before) (e ∙ above-zero (tapePlan s loaded) (take lent before) above)
+          ∙ take-append-drop lent before ∙ sym (above-zero (over (tapePlan s loaded) before) before above)
+
+  -- with n numbers of it lent
+  module _ (before : List ℕ) {n : ℕ} (count : n ≡ lent) (size : length before ≡ mostJunctions) where
+    pub lent-length : length (take n before) ≡ n
+    lent-length = length-take-le n before (omega arith)
+
+    pub whole-planned : {answer : TapePlanned} {sheet sheet′ planned : List ℕ} → MeasuredTape s loaded sheet sheet′ (take n before) planned answer
+        → WholeTape s loaded sheet sheet′ before (planned ++ drop n before) answer
+    whole-planned {sheet} {sheet′} {planned} r =
+        let same : planFault s loaded (length (take n before)) ≡ wholeFault s loaded = ap (planFault s loaded) (lent-length ∙ count) ∙ fault-same in
+        record {
+          fault = r .planned .fault ∙ same;
+          list =
+              ap (λ (j : ℕ). planned ++ drop j before) count
+              ∙ plan-over before (r .planned .list ∙ (λ i. byNumber (same i .number) (tapePlan s loaded) (take (count i) before)));
+          sheet-after = subst (λ (f : Fault). SheetAfter (tapeMachine s loaded) s (f .number) sheet sheet′) same (r .sheet-after);
+        }
+
+-- the plan stands at the beginning of such a list
+pub plan-front : (s loaded before : List ℕ) {after : List ℕ} → wholeRefusal s loaded ≡ 0 → after ≡ byNumber (wholeRefusal s loaded) (over (tapePlan s loaded) before) before
+    → (k : ℕ) → k ≤ recordsIn s → numberAt after k ≡ numberAt (tapePlan s loaded) k
+plan-front s loaded before passed e k h =
+    ap (λ (t : List ℕ). numberAt t k) (e ∙ at-zero (over (tapePlan s loaded) before) before passed)
+    ∙ List·getD-append (tapePlan s loaded) (drop (length (tapePlan s loaded)) before) 0 k (omega (arith, accepted-junctions s loaded (whole-passed s loaded passed .0)))
