@@ -142,7 +142,7 @@ given-some g = omega (arith, length-line (decimal (g .block .mark)) (drop 1 (lis
 
 -- and they are those of its rows, whatever follows them and its plan
 module _ (s loaded : List ℕ) {blocks : ℕ} (sheet plan : List ℕ) (passed : tapeRefusal s ≡ 0) (count : blocks ≡ recordsIn s)
-    (measured : (k : ℕ) → k < recordsIn s → measuredAt sheet k ≡ measuredOf (tapeMachine s loaded) (recordAt s k))
+    (measured : (k : ℕ) → k < recordsIn s → measuredAt sheet k ≡ measuredOf (tapeMachine s loaded) s k)
     (same : (k : ℕ) → k ≤ recordsIn s → numberAt plan k ≡ numberAt (tapePlan s loaded) k) where
   row-line : (k : ℕ) → k < recordsIn s → lineAt blocks sheet plan k ≡ givenText (rowOf s loaded k)
   row-line k h =
