@@ -1,6 +1,6 @@
 // The corner between two blocks.
 ghost use mathlib.Core.Path.{_≡_};
-ghost use Prim.Native.Nat.{_*_, _^_, _<_};
+ghost use Prim.Native.Nat.{_*_, _^_, _<_, min};
 ghost use Rattle.machine.specs.Checks.{blockRefusal, movesOf};
 ghost use Rattle.machine.specs.Numbers.{AxesBelow, Joinable, LimitsBelow, cornerBeside, cornerFrom, dotOf, junctionCap, junctionFrom, turnFrom, underCap};
 use crate::Block;
@@ -65,6 +65,13 @@ pub fn corner_beside(jump: u64, a: Block, na: Numbers, b: Block, nb: Numbers) ->
 {
     let cap = smaller(na.cap, nb.cap);
     under_corner(cap + 1, jump, a, na.length, b, nb.length)
+}
+
+// The junction cap between two blocks with these numbers, (µm/s)², from the corner beside their block caps.
+pub fn cap_beside(na: Numbers, nb: Numbers, corner: u64) -> u64
+    ensures { λ r. ⌜ r ≡ min (min (na .cap) (nb .cap)) corner ⌝ }
+{
+    smaller(smaller(na.cap, nb.cap), corner)
 }
 
 // The junction cap between two blocks that pass 2 to 6. No torque plays a part.

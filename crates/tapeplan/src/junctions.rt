@@ -1,10 +1,9 @@
-// The corner and the cap of the junction where a block begins.
+// The corner of the junction where a block begins.
 ghost use mathlib.Core.Path.{_≡_};
-ghost use Prim.Native.Nat.{_<_, _^_, min};
+ghost use Prim.Native.Nat.{_<_, _^_};
 ghost use lib.Dec.{eqb};
 ghost use mathlib.Core.Bool.{cond};
 ghost use Rattle.machine.specs.Numbers.{Joinable, cornerBeside};
-use arith::whole::smaller;
 use machine::Block;
 use machine::Numbers;
 use machine::corner::corner_beside;
@@ -19,11 +18,4 @@ pub fn corner_of(k: usize, jump: u64, before: Block, known: Numbers, b: Block, n
         return 0;
     }
     corner_beside(jump, before, known, b, n)
-}
-
-// The cap of the junction between two blocks with these numbers and this corner cap.
-pub fn cap_of(known: Numbers, n: Numbers, corner: u64) -> u64
-    ensures { λ r. ⌜ r ≡ min (min (known .cap) (n .cap)) corner ⌝ }
-{
-    smaller(smaller(known.cap, n.cap), corner)
 }

@@ -6,12 +6,12 @@ ghost use Rattle.machine.specs.Numbers.{LimitsBelow};
 ghost use Rattle.tape.specs.Tape.{recordsIn};
 ghost use Rattle.tapeplan.specs.Survey.{Surveyed};
 use crate::Measured;
-use crate::junctions::cap_of;
 use crate::junctions::corner_of;
 use crate::sheet::keep;
 use machine::Machine;
 use machine::Numbers;
 use machine::blocks::no_block;
+use machine::corner::cap_beside;
 use machine::measure::gauge;
 use tape::RecordRead;
 use tape::TapeCheck;
@@ -57,7 +57,7 @@ pub fn survey(
                 corner: corner,
             },
         );
-        caps[k] = cap_of(known, n, corner);
+        caps[k] = cap_beside(known, n, corner);
         reaches[k] = n.reach;
         before = b;
         known = n;

@@ -112,7 +112,7 @@ corner-of-requires c κs =
     )
 
 -- a turn whose cap is worked out
-module _ (c : tie.After-cap-of Inv-loop μ-loop) where
+module _ (c : tie.After-cap-beside Inv-loop μ-loop) where
   abbrev kept : tie.After-keep Inv-loop μ-loop
   kept = c .before .before .before
 
@@ -137,10 +137,10 @@ loop-again c =
     let gauge = gauged c .gauge in (
       omega (arith, read p .before .loop-test .taken),
       kept c .keep .ensures .sized ∙ now .inv .1,
-      length-set (now .caps) (now .k) (c .cap-of .result) ∙ now .inv .2,
+      length-set (now .caps) (now .k) (c .cap-beside .result) ∙ now .inv .2,
       length-set (now .reaches) (now .k) (gauge .result .numbers .reach) ∙ now .inv .3,
-      survey-next (start loop .args .m) (bytes loop) (now .k) (block p) (gauge .result) (cornered c .corner-of .result) (c .cap-of .result) (now .inv .4)
-          (here (read p)) (within p .0) (within p .1) (sym (passes p .0)) (passes p .1) (gauge .ensures) (cornered c .corner-of .ensures) (kept c .keep .ensures) (c .cap-of .ensures),
+      survey-next (start loop .args .m) (bytes loop) (now .k) (block p) (gauge .result) (cornered c .corner-of .result) (c .cap-beside .result) (now .inv .4)
+          (here (read p)) (within p .0) (within p .1) (sym (passes p .0)) (passes p .1) (gauge .ensures) (cornered c .corner-of .ensures) (kept c .keep .ensures) (c .cap-beside .ensures),
       now .inv .5,
     )
 
