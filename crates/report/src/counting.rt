@@ -28,7 +28,7 @@ fn counted(count: u64, held: u64, what: u64) -> u64
 }
 
 // No block was counted.
-fn none() -> Figures
+pub fn none() -> Figures
     ensures { λ r. ⌜ r ≡ noFigures ⌝ }
 {
     Figures {

@@ -7,12 +7,12 @@ pub mod lines;
 pub mod tapes;
 
 ghost use mathlib.Core.Path.{_≡_};
-ghost use Prim.Native.Nat.{_+_, _<_};
 ghost use lib.ListN.{length};
 ghost use Rattle.report.specs.Figures.{figuredMeans};
-ghost use Rattle.report.specs.Report.{Reported, added, allOf, freshReport, mostTapes, reportNumbers, reportSize, tapesIn, withFigures};
+ghost use Rattle.report.specs.Report.{Reported, added, allOf, freshReport, reportNumbers, reportSize, withFigures};
 use arith::whole::larger;
 use display::Refusal;
+use counting::none;
 use tapes::figures_of;
 use std::num::wrapping_add_u64;
 
@@ -49,34 +49,50 @@ fn sum(a: u64, b: u64) -> u64
     wrapping_add_u64(a, b)
 }
 
-// Makes a fresh report.
-fn store_fresh(report: &mut [u64])
+// The figures of all tapes in a list of a report's numbers.
+fn all_in(report: &[u64]) -> Figures
     requires { ⌜ length (now report) ≡ reportSize ⌝ }
-    ensures { λ r. ⌜ now (report .exit) ≡ freshReport ⌝ }
+    ensures { λ r. ⌜ r ≡ allOf (now (report .entry)) ⌝ }
 {
-    report[0] = 0;
-    report[1] = 0;
-    report[2] = 0;
-    report[3] = 0;
-    report[4] = 0;
-    report[5] = 0;
-    report[6] = 0;
-    report[7] = 0;
+    Figures {
+        blocks: report[1],
+        length: report[2],
+        peak: report[3],
+        feed: report[4],
+        corner: report[5],
+        chord: report[6],
+        reach: report[7],
+    }
 }
 
-// Adds the figures of one more tape.
-fn keep(report: &mut [u64], f: Figures)
-    requires { ⌜ (length (now report) ≡ reportSize) × (tapesIn (now report) < mostTapes) ⌝ }
-    ensures { λ r. ⌜ now (report .exit) ≡ reportNumbers (tapesIn (now (report .entry)) + 1) (withFigures (allOf (now (report .entry))) f) ⌝ }
+// The figures of all with those of one more tape: sums, and the greater peak.
+fn with_figures(all: Figures, f: Figures) -> Figures
+    ensures { λ r. ⌜ r ≡ withFigures all f ⌝ }
 {
-    report[0] = report[0] + 1;
-    report[1] = sum(report[1], f.blocks);
-    report[2] = sum(report[2], f.length);
-    report[3] = larger(report[3], f.peak);
-    report[4] = sum(report[4], f.feed);
-    report[5] = sum(report[5], f.corner);
-    report[6] = sum(report[6], f.chord);
-    report[7] = sum(report[7], f.reach);
+    Figures {
+        blocks: sum(all.blocks, f.blocks),
+        length: sum(all.length, f.length),
+        peak: larger(all.peak, f.peak),
+        feed: sum(all.feed, f.feed),
+        corner: sum(all.corner, f.corner),
+        chord: sum(all.chord, f.chord),
+        reach: sum(all.reach, f.reach),
+    }
+}
+
+// Stores a report's numbers.
+fn store(report: &mut [u64], tapes: u64, all: Figures)
+    requires { ⌜ length (now report) ≡ reportSize ⌝ }
+    ensures { λ r. ⌜ now (report .exit) ≡ reportNumbers tapes all ⌝ }
+{
+    report[0] = tapes;
+    report[1] = all.blocks;
+    report[2] = all.length;
+    report[3] = all.peak;
+    report[4] = all.feed;
+    report[5] = all.corner;
+    report[6] = all.chord;
+    report[7] = all.reach;
 }
 
 // Reports a tape in a list of a report's numbers.
@@ -84,13 +100,15 @@ fn add_to(report: &mut [u64], tape: &[u8], steps: &[u8]) -> Figured
     requires { ⌜ length (now report) ≡ reportSize ⌝ }
     ensures { λ r. ⌜ Reported (now (report .entry)) (now (tape .entry)) (now (steps .entry)) (figuredMeans r) (now (report .exit)) ⌝ }
 {
-    if MOST_TAPES <= report[0] {
+    let tapes = report[0];
+    if MOST_TAPES <= tapes {
         return Figured::Refused(Refusal::Many, 0);
     }
     match figures_of(tape, steps) {
         Figured::Refused(why, place) => Figured::Refused(why, place),
         Figured::Figures(f) => {
-            keep(report, f);
+            let all = with_figures(all_in(report), f);
+            store(report, tapes + 1, all);
             Figured::Figures(f)
         }
     }
@@ -100,7 +118,7 @@ fn add_to(report: &mut [u64], tape: &[u8], steps: &[u8]) -> Figured
 pub fn fresh(report: &mut [u64; NUMBERS])
     ensures { λ r. ⌜ now (report .exit) ≡ freshReport ⌝ }
 {
-    store_fresh(report);
+    store(report, 0, none());
 }
 
 // Adds a tape, planned with the torque steps that are loaded, eight bytes, or none for the built-in steps, and answers its own
@@ -115,13 +133,5 @@ pub fn add(report: &mut [u64; NUMBERS], tape: &[u8], steps: &[u8]) -> Figured
 pub fn all(report: &[u64; NUMBERS]) -> Figures
     ensures { λ r. ⌜ r ≡ allOf (now (report .entry)) ⌝ }
 {
-    Figures {
-        blocks: report[1],
-        length: report[2],
-        peak: report[3],
-        feed: report[4],
-        corner: report[5],
-        chord: report[6],
-        reach: report[7],
-    }
+    all_in(report)
 }

@@ -33,6 +33,10 @@ pub copy-all : (from before to : List ℕ) (k : ℕ) → length from ≤ length 
 copy-all from before to k h g c =
     sym (ap (sets to k) (drop-of-length-le from g)) ∙ c ∙ sets-eq from before 0 (omega arith) ∙ ap (λ (n : ℕ). from ++ drop n before) (zero-add (length from))
 
+-- the list keeps its length
+pub over-length : (from to : List ℕ) → length from ≤ length to → length (over from to) ≡ length to
+over-length from to h = length-front to from (length from) (sym (length-take-le (length from) to h))
+
 module _ (m : Machine) (s : List ℕ) where
   -- the sheet of a tape that is refused,
   pub sheet-kept : {refusal : ℕ} {sheet : List ℕ} → 0 < refusal → SheetAfter m s refusal sheet sheet
@@ -48,7 +52,7 @@ module _ (m : Machine) (s : List ℕ) where
     sheet-copied none count room same v =
         let size : length front ≡ rowSize * n = length-take-le (rowSize * n) rows (omega arith) in
         record {
-          sized = length-front sheet front (length front) (sym (length-take-le (length front) sheet (omega arith)));
+          sized = over-length front sheet (omega arith);
           rows =
               λ z k h.
               row-same (over front sheet) rows k

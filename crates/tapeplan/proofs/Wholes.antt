@@ -16,6 +16,7 @@ use Rattle.tapeplan.specs.Planned.{MeasuredTape, WholeTape, mostJunction
 use Rattle.tapeplan.specs.Sheet.{SheetAfter, over}
 use Rattle.tapeplan.specs.declared.TapePlanned.{TapePlanned}
 use Rattle.tapeplan.proofs.Answered.{whole-faultless, whole-passed}
+use Rattle.tapeplan.proofs.Copies.{over-length}
 use Rattle.tapeplan.proofs.Plans.{accepted-junctions, accepted-records}
 
 module _ (s loaded : List ℕ) where
@@ -51,6 +52,17 @@ module _ (s loaded : List ℕ) where
           ap (λ (t : List ℕ). t ++ drop lent before) (e ∙ above-zero (tapePlan s loaded) (take lent before) above)
           ∙ take-append-drop lent before ∙ sym (above-zero (over (tapePlan s loaded) before) before above)
 
+  -- a list that has room for it keeps its length
+  over-sized : (before : List ℕ) → length before ≡ mostJunctions → length (byNumber (wholeRefusal s loaded) (over (tapePlan s loaded) before) before) ≡ length before
+  over-sized before size = go (wholeRefusal s loaded) refl
+    where
+      go : (n : ℕ) → wholeRefusal s loaded ≡ n → length (byNumber (wholeRefusal s loaded) (over (tapePlan s loaded) before) before) ≡ length before
+      go zero z =
+          let own = whole-passed s loaded z .0 in
+          ap length (at-zero (over (tapePlan s loaded) before) before z)
+          ∙ over-length (tapePlan s loaded) before (omega (arith, accepted-junctions s loaded own, accepted-records s own))
+      go (suc n) z = let above : 0 < wholeRefusal s loaded = omega arith in ap length (above-zero (over (tapePlan s loaded) before) before above)
+
   -- with n numbers of it lent
   module _ (before : List ℕ) {n : ℕ} (count : n ≡ lent) (size : length before ≡ mostJunctions) where
     pub lent-length : length (take n before) ≡ n
@@ -60,11 +72,12 @@ module _ (s loaded : List ℕ) where
         → WholeTape s loaded sheet sheet′ before (planned ++ drop n before) answer
     whole-planned {sheet} {sheet′} {planned} r =
         let same : planFault s loaded (length (take n before)) ≡ wholeFault s loaded = ap (planFault s loaded) (lent-length ∙ count) ∙ fault-same in
+        let list = ap (λ (j : ℕ). planned ++ drop j before) count
+            ∙ plan-over before (r .planned .list ∙ (λ i. byNumber (same i .number) (tapePlan s loaded) (take (count i) before))) in
         record {
           fault = r .planned .fault ∙ same;
-          list =
-              ap (λ (j : ℕ). planned ++ drop j before) count
-              ∙ plan-over before (r .planned .list ∙ (λ i. byNumber (same i .number) (tapePlan s loaded) (take (count i) before)));
+          sized = ap length list ∙ over-sized before size;
+          list = list;
           sheet-after = subst (λ (f : Fault). SheetAfter (tapeMachine s loaded) s (f .number) sheet sheet′) same (r .sheet-after);
         }
 

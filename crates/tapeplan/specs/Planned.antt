@@ -77,6 +77,7 @@ mostJunctions = mostBlocks + 1
 -- all of it is as it was.
 pub record WholeTape (s loaded sheet sheet′ before after : List ℕ) (r : TapePlanned) : Type 0 where
   pub fault : plannedMeans r ≡ wholeFault s loaded
+  pub sized : length after ≡ length before
   pub list : after ≡ byNumber (wholeRefusal s loaded) (over (tapePlan s loaded) before) before
   pub sheet-after : SheetAfter (tapeMachine s loaded) s (wholeRefusal s loaded) sheet sheet′
 

@@ -1,44 +1,37 @@
+-- `report::counting::count_rows`: before row k the figures are those of the rows before it. From the laws of rows.
+use mathlib.Core.Path.{_≡_, ap, _∙_}
+use Prim.Native.Nat.{_-_, _≤_}
+use native.Mathlib.Omega.{arith}
+use Rattle.report.specs.Figures.{rowFigures}
+use Rattle.report.proofs.Rows.{countable-fewer, rows-none}
 use borrow.Author.Needs.{needs}
 use Rattle.report.proofs.counting.count_rows.Statement.{statement}
 use Rattle.report.proofs.counting.count_rows.Tie as tie
-use Rattle.report.proofs.counting.count_rows.Reads as reads
-use Rattle.report.proofs.counting.count_rows.Lts as lts
-use Rattle.report.proofs.counting.none.Reads as none-reads
-use Rattle.report.proofs.counting.with_row.Reads as with-row-reads
 
 abbrev Inv-loop : tie.InvT-loop
-Inv-loop sheet plan n f₀ k₀ f k = ?
+Inv-loop sheet plan n f₀ k₀ f k = (k ≤ n) × (f ≡ rowFigures sheet plan k)
 
 abbrev μ-loop : tie.MeasureT-loop
-μ-loop sheet plan n f₀ k₀ f k = ?
+μ-loop sheet plan n f₀ k₀ f k = n - k
 
--- src/counting.rt:96:9
-none-requires : tie.Need-none-requires Inv-loop μ-loop
-none-requires c κs = search needs
-
--- src/counting.rt:98:5
 loop-holds : tie.Need-loop-holds Inv-loop μ-loop
-loop-holds c = ?
+loop-holds c = let a = c .before .before .before .args in (omega arith, c .none .ensures ∙ rows-none (a .sheet .now) (a .plan .now))
 
--- src/counting.rt:99:9
 with-row-requires : tie.Need-with-row-requires Inv-loop μ-loop
-with-row-requires c κs = search needs
+with-row-requires c κs =
+    let l = c .before in
+    let s = l .before .before .before .before in
+    (l .loop .inv .1, countable-fewer (s .args .sheet .now) (s .args .plan .now) (s .pre) (omega (arith, c .loop-test .taken)))
 
--- src/counting.rt:100:9
-add-k : tie.Need-add-k Inv-loop μ-loop
-add-k c = search needs
-
--- src/counting.rt:98:5
-loop-less : tie.Need-loop-less Inv-loop μ-loop
-loop-less c = search needs
-
--- src/counting.rt:98:5
 loop-again : tie.Need-loop-again Inv-loop μ-loop
-loop-again c = ?
+loop-again c = (omega (arith, c .before .loop-test .taken), c .with-row .ensures)
 
--- src/counting.rt:92:1
 returns : tie.Need-returns Inv-loop μ-loop
-returns c = ?
+returns c =
+    let l = c .before in
+    let a = l .before .before .before .before .args in
+    let all : l .loop .k ≡ a .n = omega (arith, c .loop-test .left, l .loop .inv .0) in
+    l .loop .inv .1 ∙ ap (rowFigures (a .sheet .now) (a .plan .now)) all
 
 pub count-rows-spec : {M : Type 1} → statement M
 count-rows-spec =
@@ -46,10 +39,10 @@ count-rows-spec =
     (tie.spec
     Inv-loop
     μ-loop
-    none-requires
+    (λ c κs. search needs)
     loop-holds
     with-row-requires
-    add-k
-    loop-less
+    (λ c. search needs)
+    (λ c. search needs)
     loop-again
     returns)

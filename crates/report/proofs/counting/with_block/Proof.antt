@@ -1,30 +1,26 @@
+-- `report::counting::with_block` meets its contract.
+use mathlib.Core.Path.{ap, _∙_}
+use Prim.Native.Nat.{max}
 use borrow.Author.Needs.{needs}
+use Rattle.report.specs.Figures.{blockFigures}
 use Rattle.report.proofs.counting.with_block.Statement.{statement}
 use Rattle.report.proofs.counting.with_block.Tie as tie
-use Rattle.report.proofs.counting.with_block.Reads as reads
-use Rattle.report.proofs.counting.with_block.Lts as lts
-use Rattle.arith.proofs.whole.larger.Reads as larger-reads
-use Rattle.machine.proofs.measure.peak_of.Reads as peak-of-reads
 
--- src/counting.rt:51:17
-add-t5 : tie.Need-add-t5
-add-t5 c = search needs
-
--- src/counting.rt:52:17
-add-t6 : tie.Need-add-t6
-add-t6 c = search needs
-
--- src/counting.rt:53:30
-peak-of-requires : tie.Need-peak-of-requires
-peak-of-requires c κs = search needs
-
--- src/counting.rt:53:15
-larger-requires : tie.Need-larger-requires
-larger-requires c κs = search needs
-
--- src/counting.rt:46:1
 returns : tie.Need-returns
-returns c = ?
+returns c =
+    let s = c .before .before .before .before .before in
+    let a = s .args in
+    let peak = c .larger .ensures ∙ ap (max (a .f .peak)) (c .before .peak-of .ensures) in
+    λ i.
+    record {
+      blocks = blockFigures (a .f) (a .n) (a .entry) (a .exit) .blocks;
+      length = blockFigures (a .f) (a .n) (a .entry) (a .exit) .length;
+      peak = peak i;
+      feed = a .f .feed;
+      corner = a .f .corner;
+      chord = a .f .chord;
+      reach = a .f .reach;
+    }
 
 pub with-block-spec : {M : Type 1} → statement M
-with-block-spec = tie.close (tie.spec add-t5 add-t6 peak-of-requires larger-requires returns)
+with-block-spec = tie.close (tie.spec (λ c. search needs) (λ c. search needs) (λ c κs. search needs) (λ c κs. search needs) returns)

@@ -1,89 +1,103 @@
+-- `report::counting::with_row`: the row's block, and the junction where it begins. From the laws of rows.
+use mathlib.Core.Path.{_≡_, sym, ap, subst, _∙_}
+use mathlib.Core.List.{List}
+use Prim.Native.Nat.{ℕ, _+_, _-_, _<_, _^_}
+use native.Mathlib.Omega.{arith}
+use Rattle.profile.specs.Line.{numberAt}
+use Rattle.tapeplan.specs.Sheet.{measuredAt}
+use Rattle.tapeplan.specs.declared.Measured.{Measured}
+use Rattle.report.specs.Figures.{blockFigures, heldFigures, rowFigures}
+use Rattle.report.specs.Held.{heldFrom}
+use Rattle.report.specs.declared.Figures.{Figures}
+use Rattle.report.proofs.Rows.{Room, rows-begin, rows-behind, rows-room}
 use borrow.Author.Needs.{needs}
 use Rattle.report.proofs.counting.with_row.Statement.{statement}
 use Rattle.report.proofs.counting.with_row.Tie as tie
-use Rattle.report.proofs.counting.with_row.Reads as reads
-use Rattle.report.proofs.counting.with_row.Lts as lts
-use Rattle.report.proofs.counting.with_block.Reads as with-block-reads
-use Rattle.report.proofs.counting.with_held.Reads as with-held-reads
-use Rattle.report.proofs.held.held_by.Reads as held-by-reads
-use Rattle.tapeplan.proofs.sheet.measured_at.Reads as measured-at-reads
 
--- src/counting.rt:82:9
+-- the row is read
+module _ (c : tie.After-measured-at) where
+  abbrev s : tie.Start
+  s = c .before .before .before
+
+  abbrev sheet : List ℕ
+  sheet = s .args .sheet .now
+
+  abbrev plan : List ℕ
+  plan = s .args .plan .now
+
+  abbrev k : ℕ
+  k = s .args .k
+
+  room : Room (s .args .f)
+  room = subst Room (sym (s .pre .0)) (rows-room sheet plan (k + 1) k (s .pre .1) (omega arith))
+
 measured-at-requires : tie.Need-measured-at-requires
-measured-at-requires c κs = search needs
+measured-at-requires c κs = omega (arith, c .before .before .pre .1 .rows)
 
--- src/counting.rt:83:40
-mul-with-block : tie.Need-mul-with-block
-mul-with-block c = search needs
-
--- src/counting.rt:83:40
-shared-slice-read-with-block : tie.Need-shared-slice-read-with-block
-shared-slice-read-with-block c = search needs
-
--- src/counting.rt:83:54
-add-with-block : tie.Need-add-with-block
-add-with-block c = search needs
-
--- src/counting.rt:83:49
-mul-with-block-2 : tie.Need-mul-with-block-2
-mul-with-block-2 c = search needs
-
--- src/counting.rt:83:49
-shared-slice-read-with-block-2 : tie.Need-shared-slice-read-with-block-2
-shared-slice-read-with-block-2 c = search needs
-
--- src/counting.rt:83:9
 with-block-requires : tie.Need-with-block-requires
-with-block-requires c κs = search needs
+with-block-requires c κs =
+    let m = c .before .before in
+    let can = s m .pre .1 in
+    let row = m .measured-at .ensures in (
+      room m .blocks,
+      room m .lengths,
+      omega (arith, ap (λ (r : Measured). r .numbers .length) row, can .lengths (k m) (omega arith)),
+      omega (arith, ap (λ (r : Measured). r .numbers .reach) row, can .reaches (k m) (omega arith)),
+      can .speeds (k m) (omega arith),
+      can .speeds (k m + 1) (omega arith),
+    )
 
--- src/counting.rt:85:9
+-- its block is counted
+module _ (c : tie.After-with-block) where
+  abbrev read : tie.After-measured-at
+  read = c .before .before .before
+
+  -- the figures are those of the rows before it and of its block
+  with-it : c .with-block .result ≡ blockFigures (rowFigures (sheet read) (plan read) (k read)) (measuredAt (sheet read) (k read) .numbers) (numberAt (plan read) (k read)) (numberAt (plan read) (k read + 1))
+  with-it =
+      c .with-block .ensures
+      ∙ (λ i. blockFigures (s read .pre .0 i) (read .measured-at .ensures i .numbers) (numberAt (plan read) (k read)) (numberAt (plan read) (k read + 1)))
+
 returns : tie.Need-returns
-returns c = ?
+returns c = let b = c .before in with-it b ∙ rows-begin (sheet (read b)) (plan (read b)) (k (read b)) (c .if1 .taken)
 
--- src/counting.rt:87:37
-sub-measured-at : tie.Need-sub-measured-at
-sub-measured-at c = search needs
-
--- src/counting.rt:87:9
-measured-at-requires-2 : tie.Need-measured-at-requires-2
-measured-at-requires-2 c κs = search needs
-
--- src/counting.rt:88:39
-mul-held-by : tie.Need-mul-held-by
-mul-held-by c = search needs
-
--- src/counting.rt:88:39
-shared-slice-read-held-by : tie.Need-shared-slice-read-held-by
-shared-slice-read-held-by c = search needs
-
--- src/counting.rt:88:18
-held-by-requires : tie.Need-held-by-requires
-held-by-requires c κs = search needs
-
--- src/counting.rt:88:5
 with-held-requires : tie.Need-with-held-requires
-with-held-requires c κs = search needs
+with-held-requires c κs =
+    let b = c .before .before .before .before in
+    let held = room (read b) .held in
+    let is = with-it b ∙ (λ i. blockFigures (sym (s (read b) .pre .0) i) (measuredAt (sheet (read b)) (k (read b)) .numbers) (numberAt (plan (read b)) (k (read b))) (numberAt (plan (read b)) (k (read b) + 1))) in (
+      omega (arith, ap (λ (f : Figures). f .feed) is, held .0),
+      omega (arith, ap (λ (f : Figures). f .corner) is, held .1),
+      omega (arith, ap (λ (f : Figures). f .chord) is, held .2),
+      omega (arith, ap (λ (f : Figures). f .reach) is, held .3),
+    )
 
--- src/counting.rt:78:1
 returns-2 : tie.Need-returns-2
-returns-2 c = ?
+returns-2 c =
+    let h = c .before in
+    let m = h .before .before in
+    let b = m .before .before in
+    let r = read b in
+    c .with-held .ensures
+    ∙ (λ i. heldFigures (with-it b i) ((h .held-by .ensures ∙ (λ j. heldFrom (m .measured-at2 .ensures j) (r .measured-at .ensures j) (numberAt (plan r) (k r)))) i))
+    ∙ rows-behind (sheet r) (plan r) (k r) (omega (arith, m .before .if1 .left))
 
 pub with-row-spec : {M : Type 1} → statement M
 with-row-spec =
     tie.close
     (tie.spec
     measured-at-requires
-    mul-with-block
-    shared-slice-read-with-block
-    add-with-block
-    mul-with-block-2
-    shared-slice-read-with-block-2
+    (λ c. search needs)
+    (λ c. search needs)
+    (λ c. search needs)
+    (λ c. search needs)
+    (λ c. search needs)
     with-block-requires
     returns
-    sub-measured-at
-    measured-at-requires-2
-    mul-held-by
-    shared-slice-read-held-by
-    held-by-requires
+    (λ c. search needs)
+    (λ c κs. search needs)
+    (λ c. search needs)
+    (λ c. search needs)
+    (λ c κs. search needs)
     with-held-requires
     returns-2)

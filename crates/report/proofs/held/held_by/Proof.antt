@@ -1,35 +1,48 @@
+-- `report::held::held_by` meets its contract: the tests decide, in their order.
+use mathlib.Core.Path.{_≡_, sym, _∙_}
+use Prim.Native.Nat.{min}
+use mathlib.Core.Bool.{true, false}
+use lib.Dec.{eqb}
 use borrow.Author.Needs.{needs}
+use borrow.Author.Tests.{eq-eqb, ne-eqb}
+use Rattle.report.specs.Held.{heldFrom}
 use Rattle.report.proofs.held.held_by.Statement.{statement}
 use Rattle.report.proofs.held.held_by.Tie as tie
-use Rattle.report.proofs.held.held_by.Reads as reads
-use Rattle.report.proofs.held.held_by.Lts as lts
-use Rattle.arith.proofs.whole.smaller.Reads as smaller-reads
-use Rattle.machine.proofs.corner.cap_beside.Reads as cap-beside-reads
 
--- src/held.rt:35:9
-cap-beside-requires : tie.Need-cap-beside-requires
-cap-beside-requires c κs = search needs
-
--- src/held.rt:37:9
+-- the plan is below the cap
 returns : tie.Need-returns
-returns c = ?
+unfolding heldFrom
+returns c =
+    let a = c .before .before .args in
+    rw (ne-eqb (a .speed) (min (min (a .a .numbers .cap) (a .b .numbers .cap)) (a .b .corner)) (λ e. c .if1 .taken (e ∙ sym (c .before .cap-beside .ensures))))
 
--- src/held.rt:39:9
-smaller-requires : tie.Need-smaller-requires
-smaller-requires c κs = search needs
+-- it is at the cap
+module _ (c : tie.After-smaller) where
+  abbrev s : tie.Start
+  s = c .before .before .before
 
--- src/held.rt:41:9
+  capped : eqb (s .args .speed) (min (min (s .args .a .numbers .cap) (s .args .b .numbers .cap)) (s .args .b .corner)) ≡ true
+  capped = eq-eqb _ _ (c .before .if1 .left ∙ c .before .before .cap-beside .ensures)
+
 returns-2 : tie.Need-returns-2
-returns-2 c = ?
+unfolding heldFrom
+returns-2 c =
+    let a = s (c .before) .args in
+    rw (capped (c .before), eq-eqb (min (a .a .square) (a .b .square)) (a .speed) (sym (c .before .smaller .ensures) ∙ c .if2 .taken))
 
--- src/held.rt:44:9
 returns-3 : tie.Need-returns-3
-returns-3 c = ?
+unfolding heldFrom
+returns-3 c =
+    let k = c .before .before in
+    let a = s k .args in
+    rw (capped k, ne-eqb (min (a .a .square) (a .b .square)) (a .speed) (λ e. c .before .if2 .left (k .smaller .ensures ∙ e)), eq-eqb (a .b .corner) (a .speed) (c .if3 .taken))
 
--- src/held.rt:31:1
 returns-4 : tie.Need-returns-4
-returns-4 c = ?
+unfolding heldFrom
+returns-4 c =
+    let k = c .before .before in
+    let a = s k .args in
+    rw (capped k, ne-eqb (min (a .a .square) (a .b .square)) (a .speed) (λ e. c .before .if2 .left (k .smaller .ensures ∙ e)), ne-eqb (a .b .corner) (a .speed) (c .if3 .left))
 
 pub held-by-spec : {M : Type 1} → statement M
-held-by-spec =
-    tie.close (tie.spec cap-beside-requires returns smaller-requires returns-2 returns-3 returns-4)
+held-by-spec = tie.close (tie.spec (λ c κs. search needs) returns (λ c κs. search needs) returns-2 returns-3 returns-4)

@@ -1,76 +1,54 @@
+-- `report::held::store_held`: what is left to store leads to the end. From the laws of copies and of lists.
+use mathlib.Core.Path.{_≡_, refl, sym, _∙_}
+use mathlib.Core.List.{List}
+use Prim.Native.Nat.{ℕ, _+_, _-_, _≤_}
+use Rattle.profile.specs.Line.{numberAt}
+use Rattle.report.specs.Held.{heldFrom}
+use native.Mathlib.Omega.{arith}
+use lib.ListN.{length}
+use Rattle.tapeplan.proofs.Copies.{Copying, copy-all}
+use Rattle.report.specs.Counts.{listFrom}
+use Rattle.report.specs.Figures.{rowHeld}
+use Rattle.report.proofs.Rows.{held-between, list-length, list-next, over-all}
 use borrow.Author.Needs.{needs}
 use Rattle.report.proofs.held.store_held.Statement.{statement}
 use Rattle.report.proofs.held.store_held.Tie as tie
-use Rattle.report.proofs.held.store_held.Reads as reads
-use Rattle.report.proofs.held.store_held.Lts as lts
-use Rattle.report.proofs.held.held_by.Reads as held-by-reads
-use Rattle.tapeplan.proofs.sheet.measured_at.Reads as measured-at-reads
+
+-- what is stored at last
+abbrev target : (sheet plan list : List ℕ) → List ℕ
+target sheet plan list = listFrom (rowHeld sheet plan) 0 (length list)
 
 abbrev Inv-loop : tie.InvT-loop
-Inv-loop sheet plan list₀ i₀ list i = ?
+Inv-loop sheet plan list₀ i₀ list i = (i ≤ length list₀) × (length list ≡ length list₀) × Copying (target sheet plan list₀) list₀ list i
 
 abbrev μ-loop : tie.MeasureT-loop
-μ-loop sheet plan list₀ i₀ list i = ?
+μ-loop sheet plan list₀ i₀ list i = length list₀ - i
 
--- src/held.rt:55:5
 loop-holds : tie.Need-loop-holds Inv-loop μ-loop
-loop-holds c = ?
+loop-holds c = (omega arith, refl, refl)
 
--- src/held.rt:56:13
-measured-at-requires : tie.Need-measured-at-requires Inv-loop μ-loop
-measured-at-requires c κs = search needs
-
--- src/held.rt:57:36
-add-measured-at : tie.Need-add-measured-at Inv-loop μ-loop
-add-measured-at c = search needs
-
--- src/held.rt:57:13
-measured-at-requires-2 : tie.Need-measured-at-requires-2 Inv-loop μ-loop
-measured-at-requires-2 c κs = search needs
-
--- src/held.rt:58:38
-add-held-by : tie.Need-add-held-by Inv-loop μ-loop
-add-held-by c = search needs
-
--- src/held.rt:58:33
-mul-held-by : tie.Need-mul-held-by Inv-loop μ-loop
-mul-held-by c = search needs
-
--- src/held.rt:58:33
-shared-slice-read-held-by : tie.Need-shared-slice-read-held-by Inv-loop μ-loop
-shared-slice-read-held-by c = search needs
-
--- src/held.rt:58:19
-held-by-requires : tie.Need-held-by-requires Inv-loop μ-loop
-held-by-requires c κs = search needs
-
--- src/held.rt:58:9
-mul-list : tie.Need-mul-list Inv-loop μ-loop
-mul-list c = search needs
-
--- src/held.rt:58:9
-slice-write-list : tie.Need-slice-write-list Inv-loop μ-loop
-slice-write-list c = search needs
-
--- src/held.rt:59:9
-add-i : tie.Need-add-i Inv-loop μ-loop
-add-i c = search needs
-
--- src/held.rt:55:5
-loop-less : tie.Need-loop-less Inv-loop μ-loop
-loop-less c = search needs
-
--- src/held.rt:55:5
 loop-again : tie.Need-loop-again Inv-loop μ-loop
-loop-again c = ?
+loop-again c =
+    let m = c .before .before in
+    let l = m .before .before .before in
+    let a = l .before .before .before .before .args in
+    let i = l .loop .i in
+    let stored =
+        c .held-by .ensures ∙ (λ j. heldFrom (m .before .measured-at .ensures j) (m .measured-at2 .ensures j) (numberAt (a .plan .now) (i + 1)))
+        ∙ held-between (a .sheet .now) (a .plan .now) i in (
+      search needs,
+      search needs,
+      list-next (rowHeld (a .sheet .now) (a .plan .now)) (a .list .now) (l .loop .list) i (c .held-by .result) (search needs) stored (l .loop .inv .2),
+    )
 
--- src/held.rt:50:1
-same-length : tie.Need-same-length Inv-loop μ-loop
-same-length c = search needs
-
--- src/held.rt:50:1
 returns : tie.Need-returns Inv-loop μ-loop
-returns c = ?
+returns c =
+    let l = c .before in
+    let a = l .before .before .before .before .args in
+    let end = target (a .sheet .now) (a .plan .now) (a .list .now) in
+    let size = list-length (rowHeld (a .sheet .now) (a .plan .now)) 0 (length (a .list .now)) in
+    copy-all end (a .list .now) (l .loop .list) (l .loop .i) (omega (arith, size)) (omega (arith, size, l .loop .inv, c .loop-test .left)) (l .loop .inv .2)
+    ∙ over-all end (a .list .now) (sym size)
 
 pub store-held-spec : {M : Type 1} → statement M
 store-held-spec =
@@ -79,17 +57,17 @@ store-held-spec =
     Inv-loop
     μ-loop
     loop-holds
-    measured-at-requires
-    add-measured-at
-    measured-at-requires-2
-    add-held-by
-    mul-held-by
-    shared-slice-read-held-by
-    held-by-requires
-    mul-list
-    slice-write-list
-    add-i
-    loop-less
+    (λ c κs. search needs)
+    (λ c. search needs)
+    (λ c κs. search needs)
+    (λ c. search needs)
+    (λ c. search needs)
+    (λ c. search needs)
+    (λ c κs. search needs)
+    (λ c. search needs)
+    (λ c. search needs)
+    (λ c. search needs)
+    (λ c. search needs)
     loop-again
-    same-length
+    (λ c. search needs)
     returns)

@@ -1,58 +1,60 @@
+-- `report::tapes::figures_of`: the answer of planning decides. From the laws of an accepted tape's figures.
+use mathlib.Core.Path.{_≡_, refl, sym, ap, subst, _∙_}
+use mathlib.Core.List.{List}
+use Prim.Native.Nat.{ℕ}
+use native.Mathlib.Omega.{arith}
+use Rattle.tapeplan.specs.Planned.{plannedMeans, wholeFault}
+use Rattle.report.specs.Figures.{Countable, figuresOf, rowFigures, tapeFigures}
+use Rattle.report.proofs.Accepted.{planned-countable, planned-figures, planned-passed}
+use Rattle.report.proofs.Answers.{figured-given, figured-refused}
 use borrow.Author.Needs.{needs}
 use Rattle.report.proofs.tapes.figures_of.Statement.{statement}
 use Rattle.report.proofs.tapes.figures_of.Tie as tie
-use Rattle.report.proofs.tapes.figures_of.Reads as reads
-use Rattle.report.proofs.tapes.figures_of.Lts as lts
-use Rattle.report.proofs.counting.count_rows.Reads as count-rows-reads
-use Rattle.tape.proofs.records.records_in.Reads as records-in-reads
-use Rattle.tapeplan.proofs.whole.plan_whole.Reads as plan-whole-reads
 
--- src/tapes.rt:24:11
-plan-whole-requires : tie.Need-plan-whole-requires
-plan-whole-requires c κs = search needs
-
--- src/tapes.rt:25:30
-enum-known-why : tie.Need-enum-known-why
-enum-known-why c = search needs
-
--- src/tapes.rt:26:61
-enum-told : tie.Need-enum-told
-enum-told c = search needs
-
--- src/tapes.rt:26:61
-slice-aggregate-count-rows : tie.Need-slice-aggregate-count-rows
-slice-aggregate-count-rows c = search needs
-
--- src/tapes.rt:26:69
-slice-aggregate-count-rows-2 : tie.Need-slice-aggregate-count-rows-2
-slice-aggregate-count-rows-2 c = search needs
-
--- src/tapes.rt:26:76
-records-in-requires : tie.Need-records-in-requires
-records-in-requires c κs = search needs
-
--- src/tapes.rt:26:50
-count-rows-requires : tie.Need-count-rows-requires
-count-rows-requires c κs = search needs
-
--- src/tapes.rt:19:1
 returns : tie.Need-returns
-returns c = ?
+unfolding tapeFigures
+returns c =
+    let why = c .before .why .given in
+    let p = c .before .before .before in
+    let a = p .before .before .before .before .before .args in
+    figured-refused (wholeFault (a .s .now) (a .steps .now)) (figuresOf (a .s .now) (a .steps .now)) (why .0 .0) (why .0 .1 .0)
+    (sym (ap plannedMeans (why .1)) ∙ p .plan-whole .ensures .fault)
 
--- src/tapes.rt:19:1
+-- a tape that is planned
+module _ (c : tie.After-records-in) where
+  abbrev told : tie.After-enum-told
+  told = c .before .before .before
+
+  abbrev planned : tie.After-plan-whole
+  planned = told .before .before
+
+  abbrev start : tie.Start
+  start = planned .before .before .before .before .before
+
+count-rows-requires : tie.Need-count-rows-requires
+count-rows-requires c κs =
+    subst (Countable _ _) (sym (c .records-in .ensures)) (planned-countable (planned c .plan-whole .ensures) (told c .enum-told .given .1) refl refl)
+
 returns-2 : tie.Need-returns-2
-returns-2 c = ?
+unfolding tapeFigures
+returns-2 c =
+    let r = c .before in
+    let w = planned r .plan-whole .ensures in
+    let is = told r .enum-told .given .1 in
+    let a = start r .args in
+    figured-given (wholeFault (a .s .now) (a .steps .now)) (figuresOf (a .s .now) (a .steps .now)) (planned-passed w is)
+    (c .count-rows .ensures ∙ ap (rowFigures _ _) (r .records-in .ensures) ∙ planned-figures w is)
 
 pub figures-of-spec : {M : Type 1} → statement M
 figures-of-spec =
     tie.close
     (tie.spec
-    plan-whole-requires
-    enum-known-why
-    enum-told
-    slice-aggregate-count-rows
-    slice-aggregate-count-rows-2
-    records-in-requires
+    (λ c κs. search needs)
+    (λ c. search needs)
+    (λ c. search needs)
+    (λ c. search needs)
+    (λ c. search needs)
+    (λ c κs. search needs)
     count-rows-requires
     returns
     returns-2)
