@@ -1,7 +1,7 @@
 -- Lines of a listing and of a replay, which the definitions compute.
 use mathlib.Core.Path.{_≡_, refl}
 use mathlib.Core.List.{_∷_, []}
-use Rattle.text.specs.Text.{digitsOf, decimal, spaced, line, row, refusedWords, refusedAt, refused, held, plan}
+use Rattle.text.specs.Text.{digitsOf, decimal, spaced, line, named, row, namedRow, refusedWords, refusedAt, refusedNamed, refused, held, plan}
 
 -- `0` and `18446744073709551615`
 zero : decimal 0 ≡ 48 ∷ []
@@ -21,6 +21,15 @@ listed = refl
 refused-at : refusedAt 9 0 ≡ 114 ∷ 101 ∷ 102 ∷ 117 ∷ 115 ∷ 101 ∷ 100 ∷ 32 ∷ 57 ∷ 32 ∷ 97 ∷ 116 ∷ 32 ∷ 48 ∷ 10 ∷ []
 unfolding refusedWords line spaced decimal digitsOf
 refused-at = refl
+
+-- `2 1000 a`, and `refused 9 at 0 a`
+named-numbers : namedRow (2 ∷ 1000 ∷ []) (97 ∷ []) ≡ 50 ∷ 32 ∷ 49 ∷ 48 ∷ 48 ∷ 48 ∷ 32 ∷ 97 ∷ 10 ∷ []
+unfolding namedRow named spaced decimal digitsOf
+named-numbers = refl
+
+named-refusal : refusedNamed 9 0 (97 ∷ []) ≡ 114 ∷ 101 ∷ 102 ∷ 117 ∷ 115 ∷ 101 ∷ 100 ∷ 32 ∷ 57 ∷ 32 ∷ 97 ∷ 116 ∷ 32 ∷ 48 ∷ 32 ∷ 97 ∷ 10 ∷ []
+unfolding refusedWords named spaced decimal digitsOf
+named-refusal = refl
 
 -- `refused 10`
 refused-ten : refused 10 ≡ 114 ∷ 101 ∷ 102 ∷ 117 ∷ 115 ∷ 101 ∷ 100 ∷ 32 ∷ 49 ∷ 48 ∷ 10 ∷ []

@@ -1,13 +1,13 @@
 -- Spaced numbers, lines and rows as they are stored, and how long they are. From the laws of decimals and of texts stored.
 use mathlib.Core.Path.{_≡_, refl, _∙_}
-use Prim.Native.Nat.{ℕ, suc, _+_, _-_, _*_, _^_, _≤_, _<_}
+use Prim.Native.Nat.{ℕ, zero, suc, _+_, _-_, _*_, _^_, _≤_, _<_}
 use native.Mathlib.Omega.{arith}
 use native.Mathlib.Numerals.{add-one}
 use mathlib.Core.List.{List, _∷_, _++_, append-nil, []}
 use lib.ListN.{length, getD, take, drop, set, length-append}
 use lib.Seq.{take-all, drop-cons, lt-length-set}
 use Rattle.text.specs.Store.{put, Stored}
-use Rattle.text.specs.Text.{space, lineFeed, decimal, spaced, line, row, refusedWords}
+use Rattle.text.specs.Text.{space, lineFeed, decimal, spaced, line, named, row, namedRow, refusedWords, refusedNamed}
 use Rattle.text.proofs.Decimal.{length-word}
 use Rattle.text.proofs.Store.{put-next, put-cons}
 
@@ -33,6 +33,11 @@ pub length-line : (words numbers : List ℕ) → length (line words numbers) ≡
 unfolding line
 length-line words numbers = rw (length-append (words ++ spaced numbers) (lineFeed ∷ []), length-append words (spaced numbers))
 
+pub length-named : (words numbers name : List ℕ)
+    → length (named words numbers name) ≡ length words + length (spaced numbers) + 1 + length name + 1
+unfolding named
+length-named words numbers name = simp length-append (omega arith)
+
 -- A row is a line feed alone, or a line whose words are its first number.
 pub row-none : (numbers : List ℕ) → length numbers ≡ 0 → row numbers ≡ lineFeed ∷ []
 unfolding row
@@ -44,6 +49,17 @@ pub row-some : (numbers : List ℕ) → 0 < length numbers
 unfolding row
 row-some [] h = absurd (omega arith)
 row-some (n ∷ numbers) h = rw (take-all (length (n ∷ numbers) - 1) numbers (omega arith))
+
+pub named-row-none : (numbers name : List ℕ) → length numbers ≡ 0 → namedRow numbers name ≡ line name numbers
+unfolding namedRow line spaced
+named-row-none [] name e = rw (append-nil name)
+named-row-none (n ∷ numbers) name e = absurd (omega arith)
+
+pub named-row-some : (numbers name : List ℕ) → 0 < length numbers
+    → namedRow numbers name ≡ named (decimal (getD numbers 0 0)) (take (length numbers - 1) (drop 1 numbers)) name
+unfolding namedRow
+named-row-some [] name h = absurd (omega arith)
+named-row-some (n ∷ numbers) name h = rw (take-all (length (n ∷ numbers) - 1) numbers (omega arith))
 
 -- Numbers of 64 bits take at most 21 bytes each, with the space before them.
 pub spaced-most : (numbers : List ℕ) → ((i : ℕ) → getD numbers i 0 < 2 ^ 64) → length (spaced numbers) ≤ 21 * length numbers
@@ -65,3 +81,22 @@ pub row-most : (numbers : List ℕ) → ((i : ℕ) → getD numbers i 0 < 2 ^ 64
 unfolding row
 row-most [] h = omega arith
 row-most (n ∷ numbers) h = omega (arith, line-most (decimal n) numbers (λ i. h (suc i)), length-word n (h 0))
+
+-- With a name: the longest row of numbers, or refusal, and the name.
+pub named-most : (words numbers name : List ℕ) → ((i : ℕ) → getD numbers i 0 < 2 ^ 64)
+    → length (named words numbers name) ≤ length words + 21 * length numbers + length name + 2
+named-most words numbers name h = omega (arith, length-named words numbers name, spaced-most numbers h)
+
+pub named-row-most : (numbers name : List ℕ) → ((i : ℕ) → getD numbers i 0 < 2 ^ 64)
+    → length (namedRow numbers name) ≤ 21 * length numbers + length name + 1
+unfolding namedRow
+named-row-most [] name h = rw (length-append name (lineFeed ∷ [])) (omega arith)
+named-row-most (n ∷ numbers) name h = omega (arith, named-most (decimal n) numbers name (λ i. h (suc i)), length-word n (h 0))
+
+pub refused-named-most : (number place : ℕ) (name : List ℕ) → number < 2 ^ 64 → place < 2 ^ 64
+    → length (refusedNamed number place name) ≤ 54 + length name
+refused-named-most number place name n p = omega (arith, named-most (refusedWords number) (place ∷ []) name each, refused-most number n)
+  where
+    each : (i : ℕ) → getD (place ∷ []) i 0 < 2 ^ 64
+    each zero = p
+    each (suc i) = omega arith

@@ -66,10 +66,19 @@ spaced (n ∷ numbers) = space ∷ decimal n ++ spaced numbers
 unfoldable pub line : List ℕ → List ℕ → List ℕ
 line words numbers = words ++ spaced numbers ++ lineFeed ∷ []
 
+-- words, the numbers each after one space, a name after one space, and a line feed
+unfoldable pub named : (words numbers name : List ℕ) → List ℕ
+named words numbers name = words ++ spaced numbers ++ space ∷ name ++ lineFeed ∷ []
+
 -- the numbers parted by one space, and a line feed
 unfoldable pub row : List ℕ → List ℕ
 row [] = lineFeed ∷ []
 row (n ∷ numbers) = line (decimal n) numbers
+
+-- the numbers and a name, parted by one space, and a line feed
+unfoldable pub namedRow : (numbers name : List ℕ) → List ℕ
+namedRow [] name = name ++ lineFeed ∷ []
+namedRow (n ∷ numbers) name = named (decimal n) numbers name
 
 -- the line `mark length accel entry peak exit up cruise down`
 unfoldable pub header : List ℕ
@@ -86,6 +95,10 @@ refusedWords number = refusedWord ++ spaced (number ∷ []) ++ space ∷ 97 ∷ 
 -- the line `refused`, the number, `at`, the place
 abbrev pub refusedAt : ℕ → ℕ → List ℕ
 refusedAt number place = line (refusedWords number) (place ∷ [])
+
+-- that line with a name behind it
+abbrev pub refusedNamed : (number place : ℕ) (name : List ℕ) → List ℕ
+refusedNamed number place name = named (refusedWords number) (place ∷ []) name
 
 -- the line `refused`, the number
 abbrev pub refused : ℕ → List ℕ

@@ -5,7 +5,8 @@ ghost use mathlib.Core.Path.{_≡_};
 ghost use Prim.Native.Nat.{_+_, _<_, _≤_};
 ghost use lib.Dec.{leb};
 ghost use lib.ListN.{length};
-ghost use Rattle.text.specs.Text.{decimal, lastDigits, Digits, spaced, line, row, header, refusedWords, refusedAt, refused, added, held, plan};
+ghost use mathlib.Core.List.{_++_};
+ghost use Rattle.text.specs.Text.{decimal, lastDigits, Digits, spaced, line, named, row, namedRow, header, refusedWords, refusedAt, refusedNamed, refused, added, held, plan};
 ghost use Rattle.text.specs.Store.{Stored, Answered, placeBehind};
 
 // Bytes that a number and the space before it take at most.
@@ -153,15 +154,35 @@ fn line_fits(words: &[u8], numbers: &[u64], room: usize) -> bool
     spaced_fits(numbers, room - words.len() - 1)
 }
 
+// Stores words, and the numbers each after one space.
+fn store_words(out: &mut [u8], at: usize, words: &[u8], numbers: &[u64]) -> usize
+    requires { ⌜ at + (length (now words) + length (spaced (now numbers))) ≤ length (now out) ⌝ }
+    ensures { λ r. ⌜ Stored (now (out .entry)) at (now (words .entry) ++ spaced (now (numbers .entry))) r (now (out .exit)) ⌝ }
+{
+    let behind = store_bytes(out, at, words);
+    store_spaced(out, behind, numbers)
+}
+
 // Stores words, the numbers each after one space, and a line feed.
 fn store_line(out: &mut [u8], at: usize, words: &[u8], numbers: &[u64]) -> usize
     requires { ⌜ at + length (line (now words) (now numbers)) ≤ length (now out) ⌝ }
     ensures { λ r. ⌜ Stored (now (out .entry)) at (line (now (words .entry)) (now (numbers .entry))) r (now (out .exit)) ⌝ }
 {
-    let behind = store_bytes(out, at, words);
-    let end = store_spaced(out, behind, numbers);
+    let end = store_words(out, at, words, numbers);
     out[end] = b'\n';
     end + 1
+}
+
+// Stores words, the numbers each after one space, a name after one space, and a line feed.
+fn store_named(out: &mut [u8], at: usize, words: &[u8], numbers: &[u64], name: &[u8]) -> usize
+    requires { ⌜ at + length (named (now words) (now numbers) (now name)) ≤ length (now out) ⌝ }
+    ensures { λ r. ⌜ Stored (now (out .entry)) at (named (now (words .entry)) (now (numbers .entry)) (now (name .entry))) r (now (out .exit)) ⌝ }
+{
+    let before = store_words(out, at, words, numbers);
+    out[before] = b' ';
+    let last = store_bytes(out, before + 1, name);
+    out[last] = b'\n';
+    last + 1
 }
 
 // Stores words, the numbers each after one space, and a line feed.
@@ -173,6 +194,24 @@ pub fn put_line(out: &mut [u8], at: usize, words: &[u8], numbers: &[u64]) -> Put
     }
     if line_fits(words, numbers, out.len() - at) {
         Put::At(store_line(out, at, words, numbers))
+    } else {
+        Put::NoRoom
+    }
+}
+
+// Stores words, the numbers each after one space, a name after one space, and a line feed. What a line has room in, less the name
+// and its space, is room for its words and numbers.
+pub fn put_named(out: &mut [u8], at: usize, words: &[u8], numbers: &[u64], name: &[u8]) -> Put
+    ensures { λ r. ⌜ Answered (now (out .entry)) at (named (now (words .entry)) (now (numbers .entry)) (now (name .entry))) r (now (out .exit)) ⌝ }
+{
+    if out.len() < at {
+        return Put::NoRoom;
+    }
+    if out.len() - at <= name.len() {
+        return Put::NoRoom;
+    }
+    if line_fits(words, numbers, out.len() - at - name.len() - 1) {
+        Put::At(store_named(out, at, words, numbers, name))
     } else {
         Put::NoRoom
     }
@@ -244,6 +283,18 @@ pub fn put_row(out: &mut [u8], at: usize, numbers: &[u64]) -> Put
     put_line(out, at, &first[..end], &numbers[1..])
 }
 
+// Stores the numbers and a name, parted by one space, and a line feed.
+pub fn put_named_row(out: &mut [u8], at: usize, numbers: &[u64], name: &[u8]) -> Put
+    ensures { λ r. ⌜ Answered (now (out .entry)) at (namedRow (now (numbers .entry)) (now (name .entry))) r (now (out .exit)) ⌝ }
+{
+    if numbers.len() == 0 {
+        return put_line(out, at, name, numbers);
+    }
+    let mut first = [0u8; 20];
+    let end = store_number(&mut first, 0, numbers[0]);
+    put_named(out, at, &first[..end], &numbers[1..], name)
+}
+
 // Stores `refused`, the number, `at`: at most 31 bytes.
 fn store_refused(out: &mut [u8], number: u64) -> usize
     requires { ⌜ length (now out) ≡ 31 ⌝ }
@@ -262,4 +313,14 @@ pub fn put_refused_at(out: &mut [u8], at: usize, number: u64, place: u64) -> Put
     let end = store_refused(&mut words, number);
     let places = [place];
     put_line(out, at, &words[..end], &places)
+}
+
+// Stores the line `refused`, the number, `at`, the place, a name.
+pub fn put_refused_named(out: &mut [u8], at: usize, number: u64, place: u64, name: &[u8]) -> Put
+    ensures { λ r. ⌜ Answered (now (out .entry)) at (refusedNamed number place (now (name .entry))) r (now (out .exit)) ⌝ }
+{
+    let mut words = [0u8; 31];
+    let end = store_refused(&mut words, number);
+    let places = [place];
+    put_named(out, at, &words[..end], &places, name)
 }
