@@ -12,10 +12,13 @@ named : (c : tie.After-smaller) → c .smaller .result ≡ length (take (c .smal
 named c = sym (length-take-le _ (c .before .before .before .before .args .program .now) (omega arith))
 
 read-named-requires : tie.Need-read-named-requires
-read-named-requires c κs = omega (arith, named (c .before .before .before .before .before .before))
+read-named-requires c κs = omega (arith, named (c .before .before .before .before .before))
+
+read-named-requires-2 : tie.Need-read-named-requires-2
+read-named-requires-2 c κs = omega (arith, named (c .before .before .before .before .before))
 
 say-wrong-requires : tie.Need-say-wrong-requires
-say-wrong-requires c κs = omega (arith, named (c .before .before .before .before .before))
+say-wrong-requires c κs = omega (arith, named (c .before .before .before .before))
 
 say-lacks-requires : tie.Need-say-lacks-requires
 say-lacks-requires c κs = omega (arith, named (c .before .before .before .before))
@@ -26,9 +29,12 @@ carry-out-spec =
     (tie.spec
     (λ c κs. search needs)
     (λ c. named (c .before))
-    (λ c κs. search needs)
     (λ c. search needs)
     read-named-requires
+    (λ c. search needs)
+    (λ c. search needs)
+    (λ c. search needs)
+    read-named-requires-2
     (λ c. search needs)
     (λ c. search needs)
     (λ c. search needs)
