@@ -249,6 +249,29 @@ option-behind : (words : List Word) → several (plain ∷ plain ∷ help ∷ wo
 unfolding askedFrom allPlain
 option-behind words = refl
 
+-- Words never ask such a program for its work with no name.
+never-plain : (words : List Word) (place : ℕ) {r : Asked} {file : ℕ} → allPlain words place r ≡ Work file → r ≡ Work file
+unfolding allPlain
+never-plain [] place e = e
+never-plain (plain ∷ words) place e = never-plain words (place + 1) e
+never-plain (help ∷ words) place e = let z : _≡_ {A = ℕ} 0 1 = cc in absurd (omega arith)
+never-plain (steps ∷ words) place e = let z : _≡_ {A = ℕ} 0 1 = cc in absurd (omega arith)
+never-plain (other ∷ words) place e = let z : _≡_ {A = ℕ} 0 1 = cc in absurd (omega arith)
+
+pub never-work : (words : List Word) (place : ℕ) (helped : Bool) (known : ℕ) {file : ℕ} → askedFrom true words place helped known ≡ Work file → ⊥
+unfolding askedFrom
+never-work [] place true known e = let z : _≡_ {A = ℕ} 0 1 = cc in omega arith
+never-work [] place false known e = let z : _≡_ {A = ℕ} 0 1 = cc in omega arith
+never-work (help ∷ words) place false known e = never-work words (place + 1) true known e
+never-work (help ∷ words) place true known e = let z : _≡_ {A = ℕ} 0 1 = cc in omega arith
+never-work (steps ∷ []) place helped zero e = let z : _≡_ {A = ℕ} 0 1 = cc in omega arith
+never-work (steps ∷ name ∷ words) place helped zero e = never-work words (place + 1 + 1) helped (place + 1) e
+never-work (steps ∷ []) place helped (suc known) e = let z : _≡_ {A = ℕ} 0 1 = cc in omega arith
+never-work (steps ∷ name ∷ words) place helped (suc known) e = let z : _≡_ {A = ℕ} 0 1 = cc in omega arith
+never-work (other ∷ words) place helped known e = let z : _≡_ {A = ℕ} 0 1 = cc in omega arith
+never-work (plain ∷ words) place true known e = let w = never-plain words (place + 1) e in let z : _≡_ {A = ℕ} 0 1 = cc in omega arith
+never-work (plain ∷ words) place false known e = let w = never-plain words (place + 1) e in let z : _≡_ {A = ℕ} 0 1 = cc in omega arith
+
 -- all are plain
 abbrev Plain : List Word → Type 0
 Plain [] = Unit

@@ -143,6 +143,14 @@ abbrev pub NamesFit : (room : ℕ) → NamesOrder → Type 0
 NamesFit room (names.Work n first) = n ≤ room
 NamesFit room names.Done = Unit {0}
 
+-- what is left to do where the words ask for this: the work only where they ask for it
+abbrev pub Carried : Asked → (room : ℕ) → Order → Type 0
+Carried (Work file) room left = Fits room left
+Carried (Each file first) room left = Fits room left
+Carried Usage room left = left ≡ order.Done
+Carried (asked.Wrong place) room left = left ≡ order.Done
+Carried (Lacks needer) room left = left ≡ order.Done
+
 -- the place of the first name that words ask for, 0 where they ask for none
 abbrev pub firstName : Asked → ℕ
 firstName (Work file) = 0
@@ -155,3 +163,15 @@ firstName (Lacks needer) = 0
 abbrev pub withNames : Order → (first : ℕ) → NamesOrder
 withNames (order.Work n) first = names.Work n first
 withNames order.Done first = names.Done
+
+-- the work is left only where words of these kinds ask for it, with the first name at this place
+abbrev pub NamedBy : (kinds : List ℕ) (file : ℕ) → NamesOrder → Type 0
+NamedBy kinds file (names.Work n first) = askedOf form.Names kinds ≡ Each file first
+NamedBy kinds file names.Done = Unit {0}
+
+-- what is left to do for a program that needs the names of files: there are words of these kinds that ask for it
+pub record NamesOrdered (room : ℕ) (left : NamesOrder) : Type 0 where
+  pub fits : NamesFit room left
+  pub kinds : List ℕ
+  pub file : ℕ
+  pub asked : NamedBy kinds file left

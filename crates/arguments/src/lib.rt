@@ -12,7 +12,7 @@ ghost use Prim.Native.Nat.{_≤_};
 ghost use lib.ListN.{length};
 ghost use Rattle.arguments.specs.Files.{AtWithin, atOf, orderOf};
 ghost use Rattle.arguments.specs.Lines.{nameSize};
-ghost use Rattle.arguments.specs.Words.{Fits, NamesFit, firstName, withNames};
+ghost use Rattle.arguments.specs.Words.{Carried, Fits, NamesOrdered, firstName, withNames};
 use file::read_file;
 use libc::PATH_MAX;
 use lines::NAME;
@@ -172,7 +172,7 @@ fn read_named(program: &[u8], place: usize, list: &mut [u8]) -> Order
 
 // Does what the words of a program of this form ask for, but its work. Returns what is left.
 fn carry_out(program: &[u8], usage: &[u8], form: Form, asked: Asked, list: &mut [u8]) -> Order
-    ensures { λ r. ⌜ Fits (length (now (list .exit))) r ⌝ }
+    ensures { λ r. ⌜ Carried asked (length (now (list .exit))) r ⌝ }
 {
     let shown = smaller(program.len(), NAME);
     let name = &program[..shown];
@@ -253,9 +253,9 @@ fn with_names(order: Order, first: usize) -> NamesOrder
 // usage is written to standard output, whether files are named or not, or the first word that is wrong, a name that is
 // missing, or a steps' file that could not be opened or read is told on standard error. All words are looked at before that.
 //
-// Open and promised is the same as of `read_order`.
+// Open and promised is the same as of `read_order`; and where the work is left, words ask for it, with the first name there.
 pub fn read_names_order(program: &[u8], usage: &[u8], steps: &mut [u8]) -> NamesOrder
-    ensures { λ r. ⌜ NamesFit (length (now (steps .exit))) r ⌝ }
+    ensures { λ r. ⌜ NamesOrdered (length (now (steps .exit))) r ⌝ }
 {
     let asked = read_asked(Form::Names, words_end());
     let order = carry_out(program, usage, Form::Names, asked, steps);
