@@ -244,7 +244,7 @@ steps-names-last : several (help ∷ steps ∷ []) ≡ Lacks Option
 unfolding askedFrom
 steps-names-last = refl
 
--- An option behind a name, whatever stands before it and behind.
+-- An option behind names, whatever follows.
 option-behind : (words : List Word) → several (plain ∷ plain ∷ help ∷ words) ≡ Wrong 3
 unfolding askedFrom allPlain
 option-behind words = refl

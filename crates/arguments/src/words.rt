@@ -45,8 +45,8 @@ fn kind_of(word: &[u8]) -> u8
     PLAIN
 }
 
-// What is seen once a word of this kind stands at a place where an option is expected, behind words that are right, or also the
-// first of several names.
+// What is seen once a word of this kind stands at a place where an option is expected, or the first of several names where the
+// program needs them, behind words that are right.
 fn with_option(names: bool, help: bool, file: usize, kind: u8, place: usize) -> Seen
     ensures { λ r. ⌜ Follows (Seen.Right names help file) kind place r ⌝ }
 {
