@@ -1,19 +1,19 @@
 -- Which words are options, and what words ask for. From the definitions.
 use mathlib.Core.Path.{_≡_, refl, sym, ap, _∙_}
-use Prim.Native.Nat.{ℕ, zero, suc, _+_, _<_}
+use Prim.Native.Nat.{ℕ, zero, suc, _+_, _-_, _<_}
 use native.Mathlib.Omega.{arith}
 use mathlib.Core.Bool.{Bool, true, false, cond}
-use mathlib.Core.List.{List, _∷_, map, []}
+use mathlib.Core.List.{List, _∷_, _++_, append-nil, map, []}
 use lib.Dec.{eqb}
-use lib.ListN.{length, getD, take, drop}
-use lib.Seq.{drop-cons}
-use native.Mathlib.Numerals.{add-one}
+use lib.ListN.{length, getD, length-append}
 use Rattle.arguments.specs.declared.Asked.{Asked}
-use Rattle.arguments.specs.declared.Asked.the-variants.{Work, Usage, Lacks, Wrong}
+use Rattle.arguments.specs.declared.Asked.the-variants.{Work, Each, Usage, Lacks, Wrong}
 use Rattle.arguments.specs.declared.Form.{Form}
-use Rattle.arguments.specs.declared.Form.the-variants.{Steps, Name}
+use Rattle.arguments.specs.declared.Form.the-variants.{Steps, Name, Names}
+use Rattle.arguments.specs.declared.Needer.the-variants.{Option, Program}
+use Rattle.arguments.specs.declared.Seen.{Seen}
 use Rattle.arguments.specs.declared.Seen.the-variants.{File, Named}
-use Rattle.arguments.specs.Words.{Word, help, steps, plain, other, helpWord, stepsWord, dashed, Known, wordOf, askedFrom, namedFrom, askedIn, askedOf, askedAfter}
+use Rattle.arguments.specs.Words.{Word, help, steps, plain, other, helpWord, stepsWord, dashed, Known, wordOf, allPlain, askedFrom, namedFrom, askedIn, askedOf, askedAfter, Begins, Follows, Ends, AskedBefore}
 
 -- The first byte says whether a word begins as the options do.
 pub dashed-empty : (word : List ℕ) → length word ≡ 0 → false ≡ dashed word
@@ -66,28 +66,31 @@ known-other g h e =
     }
 
 -- A second `--steps` is wrong; behind a first one its file is expected.
-pub steps-again : (words : List Word) (place : ℕ) (helped : Bool) (file : ℕ) → 0 < file → askedFrom (steps ∷ words) place helped file ≡ Wrong place
+pub steps-again : (names : Bool) (words : List Word) (place : ℕ) (helped : Bool) (file : ℕ) → 0 < file
+    → askedFrom names (steps ∷ words) place helped file ≡ Wrong place
 unfolding askedFrom
-steps-again words place helped zero h = absurd (omega arith)
-steps-again [] place helped (suc file) h = refl
-steps-again (name ∷ words) place helped (suc file) h = refl
+steps-again names words place helped zero h = absurd (omega arith)
+steps-again names [] place helped (suc file) h = refl
+steps-again names (name ∷ words) place helped (suc file) h = refl
 
-pub steps-first : (words : List Word) (place : ℕ) (helped : Bool) → askedAfter (File helped) (place + 1) words ≡ askedFrom (steps ∷ words) place helped 0
+pub steps-first : (names : Bool) (words : List Word) (place : ℕ) (helped : Bool)
+    → askedAfter (File names helped) (place + 1) words ≡ askedFrom names (steps ∷ words) place helped 0
 unfolding askedFrom askedAfter
-steps-first [] place helped = refl
-steps-first (name ∷ words) place helped = refl
+steps-first names [] place helped = refl
+steps-first names (name ∷ words) place helped = refl
 
--- A word that is neither `--help` nor `--steps` is wrong to a program that takes no name, and one that is neither `--help` nor
--- plain to a program that needs one.
-pub neither-option : (t : Bool) (words : List Word) (place : ℕ) (helped : Bool) (file : ℕ) → Wrong place ≡ askedFrom (cond t plain other ∷ words) place helped file
-unfolding askedFrom
-neither-option true words place helped file = refl
-neither-option false words place helped file = refl
-
+-- A word that is neither `--help` nor plain is wrong to a program that needs the name of one file.
 pub neither-name : (t : Bool) (words : List Word) (place : ℕ) (helped : Bool) → Wrong place ≡ namedFrom (cond t steps other ∷ words) place helped
 unfolding namedFrom
 neither-name true words place helped = refl
 neither-name false words place helped = refl
+
+-- Behind a name of several no word but another name is right.
+pub not-plain : (t u : Bool) (words : List Word) (place : ℕ) (r : Asked) → Wrong place ≡ allPlain (cond t help (cond u steps other) ∷ words) place r
+unfolding allPlain
+not-plain true u words place r = refl
+not-plain false true words place r = refl
+not-plain false false words place r = refl
 
 -- Behind a plain word, which names the file, none is expected.
 pub name-first : (words : List Word) (place : ℕ) (helped : Bool) → askedAfter (Named helped place) (place + 1) words ≡ namedFrom (plain ∷ words) place helped
@@ -95,9 +98,38 @@ unfolding namedFrom askedAfter
 name-first [] place helped = refl
 name-first (word ∷ words) place helped = refl
 
--- The words from a place on are the one there and those behind it.
-pub words-next : (kinds : List ℕ) (i : ℕ) → i < length kinds → wordOf (getD kinds i 0) ∷ map wordOf (drop (i + 1) kinds) ≡ map wordOf (drop i kinds)
-words-next kinds i h = rw (add-one i, drop-cons kinds i 0 h)
+-- what is seen before the word at a place, where `first` is seen before the first: there are words of these kinds, one for each
+-- place before it, and whatever words follow, the same is asked for
+pub record SeenBehind (first : Seen) (place : ℕ) (before : Seen) : Type 0 where
+  pub kinds : List ℕ
+  pub many : length kinds + 1 ≡ place
+  pub same : (words : List Word) → askedAfter before place words ≡ askedAfter first 1 (map wordOf kinds ++ words)
+
+-- It is so before the first word, one word further, and behind the last it says what all ask for.
+pub none-behind : (first : Seen) → SeenBehind first 1 first
+none-behind first = record { kinds = []; many = refl; same = λ words. refl }
+
+pub one-further : {first before after : Seen} {place : ℕ} (kind : ℕ) → SeenBehind first place before → Follows before kind place after
+    → SeenBehind first (place + 1) after
+one-further {first} kind s f =
+    record {
+      kinds = s .kinds ++ kind ∷ [];
+      many = rw (length-append (s .kinds) (kind ∷ [])) (omega (arith, s .many));
+      same = λ words. f words ∙ s .same (wordOf kind ∷ words) ∙ ap (askedAfter first 1) (moved (s .kinds) words);
+    }
+  where
+    moved : (kinds : List ℕ) (words : List Word) → map wordOf kinds ++ wordOf kind ∷ words ≡ map wordOf (kinds ++ kind ∷ []) ++ words
+    moved [] words = refl
+    moved (k ∷ kinds) words = ap (λ (l : List Word). wordOf k ∷ l) (moved kinds words)
+
+pub all-asked : {taken : Form} {first before : Seen} {place : ℕ} {r : Asked} (end : ℕ) → Begins taken first → SeenBehind first place before → Ends before r
+    → place - 1 ≡ end - 1 → AskedBefore taken end r
+all-asked {taken} {place = place} end b s e n =
+    record {
+      kinds = s .kinds;
+      many = omega (arith, s .many);
+      is = e place ∙ s .same [] ∙ b (map wordOf (s .kinds) ++ []) ∙ ap (askedIn taken) (append-nil (map wordOf (s .kinds)));
+    }
 
 -- What all words ask for of a program that takes `--steps FILE`.
 abbrev asked : List Word → Asked
@@ -125,11 +157,11 @@ unfolding askedFrom
 steps-help name = refl
 
 -- `--steps` as the last word, and twice.
-steps-last : asked (steps ∷ []) ≡ Lacks
+steps-last : asked (steps ∷ []) ≡ Lacks Option
 unfolding askedFrom
 steps-last = refl
 
-help-steps-last : asked (help ∷ steps ∷ []) ≡ Lacks
+help-steps-last : asked (help ∷ steps ∷ []) ≡ Lacks Option
 unfolding askedFrom
 help-steps-last = refl
 
@@ -137,35 +169,6 @@ steps-twice : (name : Word) (words : List Word) → asked (steps ∷ name ∷ st
 unfolding askedFrom
 steps-twice name [] = refl
 steps-twice name (word ∷ words) = refl
-
--- Four words decide: behind three right ones a fourth is wrong, whatever it is.
-fourth-wrong : (word : Word) (words : List Word) (file : ℕ) → askedFrom (word ∷ words) 4 true (suc file) ≡ Wrong 4
-unfolding askedFrom
-fourth-wrong help words file = refl
-fourth-wrong steps [] file = refl
-fourth-wrong steps (name ∷ words) file = refl
-fourth-wrong plain words file = refl
-fourth-wrong other words file = refl
-
-four-asked : (words : List Word) → asked (take 4 words) ≡ asked words
-unfolding askedFrom
-four-asked [] = refl
-four-asked (plain ∷ words) = refl
-four-asked (other ∷ words) = refl
-four-asked (help ∷ []) = refl
-four-asked (help ∷ help ∷ words) = refl
-four-asked (help ∷ plain ∷ words) = refl
-four-asked (help ∷ other ∷ words) = refl
-four-asked (help ∷ steps ∷ []) = refl
-four-asked (help ∷ steps ∷ name ∷ []) = refl
-four-asked (help ∷ steps ∷ name ∷ word ∷ words) = fourth-wrong word [] 2 ∙ sym (fourth-wrong word words 2)
-four-asked (steps ∷ []) = refl
-four-asked (steps ∷ name ∷ []) = refl
-four-asked (steps ∷ name ∷ plain ∷ words) = refl
-four-asked (steps ∷ name ∷ other ∷ words) = refl
-four-asked (steps ∷ name ∷ steps ∷ words) = steps-again (take 1 words) 3 false 2 (omega arith) ∙ sym (steps-again words 3 false 2 (omega arith))
-four-asked (steps ∷ name ∷ help ∷ []) = refl
-four-asked (steps ∷ name ∷ help ∷ word ∷ words) = fourth-wrong word [] 1 ∙ sym (fourth-wrong word words 1)
 
 -- What all words ask for of a program that needs the name of a file: all right words, and what each asks for.
 abbrev named : List Word → Asked
@@ -184,7 +187,7 @@ unfolding namedFrom
 help-name = refl
 
 -- No name, an option that is not known, `--help` twice, and a word behind the name, whatever it is.
-no-name : named [] ≡ Lacks
+no-name : named [] ≡ Lacks Program
 unfolding namedFrom
 no-name = refl
 
@@ -208,26 +211,119 @@ behind-help-name : (word : Word) (words : List Word) → named (help ∷ plain �
 unfolding namedFrom
 behind-help-name word words = refl
 
--- Four words decide here too: behind two right ones a third is wrong, whatever it is.
-four-named : (words : List Word) → named (take 4 words) ≡ named words
-unfolding namedFrom
-four-named [] = refl
-four-named (steps ∷ words) = refl
-four-named (other ∷ words) = refl
-four-named (plain ∷ []) = refl
-four-named (plain ∷ word ∷ words) = refl
-four-named (help ∷ []) = refl
-four-named (help ∷ help ∷ words) = refl
-four-named (help ∷ steps ∷ words) = refl
-four-named (help ∷ other ∷ words) = refl
-four-named (help ∷ plain ∷ []) = refl
-four-named (help ∷ plain ∷ word ∷ words) = refl
+-- What all words ask for of a program that needs the names of files.
+abbrev several : List Word → Asked
+several = askedIn Names
 
-kinds-taken : (n : ℕ) (kinds : List ℕ) → map wordOf (take n kinds) ≡ take n (map wordOf kinds)
-kinds-taken zero kinds = refl
-kinds-taken (suc n) [] = refl
-kinds-taken (suc n) (kind ∷ kinds) = ap (λ (words : List Word). wordOf kind ∷ words) (kinds-taken n kinds)
+two-names : several (plain ∷ plain ∷ []) ≡ Each 0 1
+unfolding askedFrom allPlain
+two-names = refl
 
-pub four-decide : (form : Form) (kinds : List ℕ) → askedOf form (take 4 kinds) ≡ askedOf form kinds
-four-decide Steps kinds = ap asked (kinds-taken 4 kinds) ∙ four-asked (map wordOf kinds)
-four-decide Name kinds = ap named (kinds-taken 4 kinds) ∙ four-named (map wordOf kinds)
+steps-names : (name : Word) → several (steps ∷ name ∷ plain ∷ plain ∷ []) ≡ Each 2 3
+unfolding askedFrom allPlain
+steps-names name = refl
+
+help-names : several (help ∷ plain ∷ []) ≡ Usage
+unfolding askedFrom allPlain
+help-names = refl
+
+steps-help-alone : (name : Word) → several (steps ∷ name ∷ help ∷ []) ≡ Usage
+unfolding askedFrom
+steps-help-alone name = refl
+
+-- No name, with the steps' file and without, and `--steps` as the last word.
+no-names : several [] ≡ Lacks Program
+unfolding askedFrom
+no-names = refl
+
+steps-no-names : (name : Word) → several (steps ∷ name ∷ []) ≡ Lacks Program
+unfolding askedFrom
+steps-no-names name = refl
+
+steps-names-last : several (help ∷ steps ∷ []) ≡ Lacks Option
+unfolding askedFrom
+steps-names-last = refl
+
+-- An option behind names, whatever follows.
+option-behind : (words : List Word) → several (plain ∷ plain ∷ help ∷ words) ≡ Wrong 3
+unfolding askedFrom allPlain
+option-behind words = refl
+
+-- Words never ask such a program for its work with no name.
+never-plain : (words : List Word) (place : ℕ) {r : Asked} {file : ℕ} → allPlain words place r ≡ Work file → r ≡ Work file
+unfolding allPlain
+never-plain [] place e = e
+never-plain (plain ∷ words) place e = never-plain words (place + 1) e
+never-plain (help ∷ words) place e = let z : _≡_ {A = ℕ} 0 1 = cc in absurd (omega arith)
+never-plain (steps ∷ words) place e = let z : _≡_ {A = ℕ} 0 1 = cc in absurd (omega arith)
+never-plain (other ∷ words) place e = let z : _≡_ {A = ℕ} 0 1 = cc in absurd (omega arith)
+
+pub never-work : (words : List Word) (place : ℕ) (helped : Bool) (known : ℕ) {file : ℕ} → askedFrom true words place helped known ≡ Work file → ⊥
+unfolding askedFrom
+never-work [] place true known e = let z : _≡_ {A = ℕ} 0 1 = cc in omega arith
+never-work [] place false known e = let z : _≡_ {A = ℕ} 0 1 = cc in omega arith
+never-work (help ∷ words) place false known e = never-work words (place + 1) true known e
+never-work (help ∷ words) place true known e = let z : _≡_ {A = ℕ} 0 1 = cc in omega arith
+never-work (steps ∷ []) place helped zero e = let z : _≡_ {A = ℕ} 0 1 = cc in omega arith
+never-work (steps ∷ name ∷ words) place helped zero e = never-work words (place + 1 + 1) helped (place + 1) e
+never-work (steps ∷ []) place helped (suc known) e = let z : _≡_ {A = ℕ} 0 1 = cc in omega arith
+never-work (steps ∷ name ∷ words) place helped (suc known) e = let z : _≡_ {A = ℕ} 0 1 = cc in omega arith
+never-work (other ∷ words) place helped known e = let z : _≡_ {A = ℕ} 0 1 = cc in omega arith
+never-work (plain ∷ words) place true known e = let w = never-plain words (place + 1) e in let z : _≡_ {A = ℕ} 0 1 = cc in omega arith
+never-work (plain ∷ words) place false known e = let w = never-plain words (place + 1) e in let z : _≡_ {A = ℕ} 0 1 = cc in omega arith
+
+-- all are plain
+abbrev Plain : List Word → Type 0
+Plain [] = Unit
+Plain (word ∷ words) = (word ≡ plain) × Plain words
+
+-- words, the first of them at `place`, of which those from the place `first` on name files: these are plain, and there is one
+pub record NamesFrom (words : List Word) (place first : ℕ) : Type 0 where
+  pub options : List Word
+  pub names : List Word
+  pub split : words ≡ options ++ names
+  pub at : place + length options ≡ first
+  pub some : 0 < length names
+  pub all : Plain names
+
+-- It is so where names are asked for.
+plain-all : (words : List Word) (place : ℕ) {r : Asked} {file first : ℕ} → allPlain words place r ≡ Each file first → (r ≡ Each file first) × Plain words
+unfolding allPlain
+plain-all [] place e = (e, tt)
+plain-all (plain ∷ words) place e = let rest = plain-all words (place + 1) e in (rest .0, (refl, rest .1))
+plain-all (help ∷ words) place e = let z : _≡_ {A = ℕ} 0 1 = cc in absurd (omega arith)
+plain-all (steps ∷ words) place e = let z : _≡_ {A = ℕ} 0 1 = cc in absurd (omega arith)
+plain-all (other ∷ words) place e = let z : _≡_ {A = ℕ} 0 1 = cc in absurd (omega arith)
+
+further : {words : List Word} {place first : ℕ} (word : Word) → NamesFrom words (place + 1) first → NamesFrom (word ∷ words) place first
+further word n =
+    record {
+      options = word ∷ n .options;
+      names = n .names;
+      split = ap (λ (l : List Word). word ∷ l) (n .split);
+      at = omega (arith, n .at);
+      some = n .some;
+      all = n .all;
+    }
+
+each-from : (words : List Word) (place : ℕ) (helped : Bool) (known : ℕ) {file first : ℕ} → askedFrom true words place helped known ≡ Each file first
+    → NamesFrom words place first
+unfolding askedFrom
+each-from [] place true known e = let z : _≡_ {A = ℕ} 0 1 = cc in absurd (omega arith)
+each-from [] place false known e = let z : _≡_ {A = ℕ} 0 1 = cc in absurd (omega arith)
+each-from (help ∷ words) place false known e = further help (each-from words (place + 1) true known e)
+each-from (help ∷ words) place true known e = let z : _≡_ {A = ℕ} 0 1 = cc in absurd (omega arith)
+each-from (steps ∷ []) place helped zero e = let z : _≡_ {A = ℕ} 0 1 = cc in absurd (omega arith)
+each-from (steps ∷ name ∷ words) place helped zero e = further steps (further name (each-from words (place + 1 + 1) helped (place + 1) e))
+each-from (steps ∷ []) place helped (suc known) e = let z : _≡_ {A = ℕ} 0 1 = cc in absurd (omega arith)
+each-from (steps ∷ name ∷ words) place helped (suc known) e = let z : _≡_ {A = ℕ} 0 1 = cc in absurd (omega arith)
+each-from (other ∷ words) place helped known e = let z : _≡_ {A = ℕ} 0 1 = cc in absurd (omega arith)
+each-from (plain ∷ words) place true known e =
+    let rest = plain-all words (place + 1) e .0 in let z : _≡_ {A = ℕ} 0 1 = cc in absurd (omega arith)
+each-from (plain ∷ words) place false known {file} {first} e =
+    let rest = plain-all words (place + 1) e in
+    let same : place ≡ first = cc (rest .0) in
+    record { options = []; names = plain ∷ words; split = refl; at = omega arith; some = omega arith; all = (refl, rest .1) }
+
+pub each-names : (words : List Word) {file first : ℕ} → several words ≡ Each file first → NamesFrom words 1 first
+each-names words e = each-from words 1 false 0 e

@@ -5,9 +5,10 @@ ghost use mathlib.Core.List.{_++_, map};
 ghost use lib.ListN.{length};
 ghost use Rattle.io.specs.Counts.{Counts};
 ghost use Rattle.text.specs.Store.{Stored};
-ghost use Rattle.arguments.specs.Lines.{aroundSize, failedLine, lacksLine, lineOf, nameSize, shownAs, wrongLine};
+ghost use Rattle.arguments.specs.Lines.{aroundSize, failedLine, lacksLine, lineOf, nameSize, readsInput, shownAs, wrongLine};
 use crate::Fault;
 use crate::Form;
+use crate::Needer;
 use crate::words::read_word;
 use libc::STDERR_FILENO;
 use libc::STDOUT_FILENO;
@@ -73,18 +74,34 @@ fn store_line(line: &mut [u8], program: &[u8], matter: &[u8], word: &[u8], rest:
     store(line, quoted, rest)
 }
 
-// Stores the line that names a wrong word.
-fn store_wrong(line: &mut [u8], program: &[u8], word: &[u8]) -> usize
-    requires { ⌜ length (now program) + length (now word) + aroundSize ≤ length (now line) ⌝ }
-    ensures { λ r. ⌜ Stored (now (line .entry)) 0 (wrongLine (now (program .entry)) (now (word .entry))) r (now (line .exit)) ⌝ }
+// Whether a program of this form reads standard input.
+fn reads_input(form: Form) -> bool
+    ensures { λ r. ⌜ r ≡ readsInput form ⌝ }
 {
-    store_line(
-        line,
-        program,
-        b": unexpected argument '",
-        word,
-        b"'; it reads standard input, see --help\n",
-    )
+    match form {
+        Form::Steps => true,
+        Form::Name => true,
+        Form::Names => false,
+    }
+}
+
+// Stores the line that names a wrong word.
+fn store_wrong(line: &mut [u8], program: &[u8], form: Form, word: &[u8]) -> usize
+    requires { ⌜ length (now program) + length (now word) + aroundSize ≤ length (now line) ⌝ }
+    ensures { λ r. ⌜ Stored (now (line .entry)) 0 (wrongLine (now (program .entry)) form (now (word .entry))) r (now (line .exit)) ⌝ }
+{
+    let matter = b": unexpected argument '";
+    if reads_input(form) {
+        store_line(
+            line,
+            program,
+            matter,
+            word,
+            b"'; it reads standard input, see --help\n",
+        )
+    } else {
+        store_line(line, program, matter, word, b"'; see --help\n")
+    }
 }
 
 // Stores a line that is about no word: the program's name, and what is the matter.
@@ -97,17 +114,17 @@ fn store_matter(line: &mut [u8], program: &[u8], matter: &[u8]) -> usize
 }
 
 // Stores the line of a file's name that is missing: behind `--steps`, or where the program needs it.
-fn store_lacks(line: &mut [u8], program: &[u8], form: Form) -> usize
+fn store_lacks(line: &mut [u8], program: &[u8], needer: Needer) -> usize
     requires { ⌜ length (now program) + aroundSize ≤ length (now line) ⌝ }
-    ensures { λ r. ⌜ Stored (now (line .entry)) 0 (lacksLine (now (program .entry)) form) r (now (line .exit)) ⌝ }
+    ensures { λ r. ⌜ Stored (now (line .entry)) 0 (lacksLine (now (program .entry)) needer) r (now (line .exit)) ⌝ }
 {
-    match form {
-        Form::Steps => store_matter(
+    match needer {
+        Needer::Option => store_matter(
             line,
             program,
             b": '--steps' needs the name of a file, see --help\n",
         ),
-        Form::Name => store_matter(line, program, b": needs the name of a file, see --help\n"),
+        Needer::Program => store_matter(line, program, b": needs the name of a file, see --help\n"),
     }
 }
 
@@ -132,22 +149,22 @@ fn read_shown(place: usize, word: &mut [u8]) -> usize
 }
 
 // Says which word is wrong, as much of it as is shown.
-pub fn say_wrong(program: &[u8], place: usize)
+pub fn say_wrong(program: &[u8], form: Form, place: usize)
     requires { ⌜ length (now program) ≤ nameSize ⌝ }
 {
     let mut word = [0u8; WORD];
     let got = read_shown(place, &mut word);
     let mut line = [0u8; LINE];
-    let end = store_wrong(&mut line, program, &word[..got]);
+    let end = store_wrong(&mut line, program, form, &word[..got]);
     io::write_all(STDERR_FILENO, &line[..end]);
 }
 
 // Says that the name of a file is missing.
-pub fn say_lacks(program: &[u8], form: Form)
+pub fn say_lacks(program: &[u8], needer: Needer)
     requires { ⌜ length (now program) ≤ nameSize ⌝ }
 {
     let mut line = [0u8; LINE];
-    let end = store_lacks(&mut line, program, form);
+    let end = store_lacks(&mut line, program, needer);
     io::write_all(STDERR_FILENO, &line[..end]);
 }
 

@@ -1,9 +1,10 @@
 // The words behind a program's name: which of them are options, and what all ask for.
 ghost use mathlib.Core.Path.{_≡_};
 ghost use Rattle.io.specs.Counts.{Counts};
-ghost use Rattle.arguments.specs.Words.{Begins, Chosen, Ends, Follows, Known, askedOf, dashed, unlessHelp};
+ghost use Rattle.arguments.specs.Words.{AskedBefore, Begins, Ends, Follows, Known, dashed, optionsAlone, unlessHelp};
 use crate::Asked;
 use crate::Form;
+use crate::Needer;
 use crate::Seen;
 
 // The kinds of words: `--help`, `--steps`, one that is no option, and any other.
@@ -15,9 +16,6 @@ const PLAIN: u8 = 3;
 
 const OTHER: u8 = 0;
 
-// Words that are looked at: behind three that are right a fourth is wrong whatever it is, and behind two a third where the
-// program needs the name of a file. The law `four-decide` says so of both forms.
-const LOOKED: usize = 4;
 // Bytes of a word that are looked at: what is longer is no option that is known.
 const OPTION: usize = 16;
 
@@ -47,21 +45,28 @@ fn kind_of(word: &[u8]) -> u8
     PLAIN
 }
 
-// What is seen once a word of this kind stands at a place where an option is expected, behind words that are right.
-fn with_option(help: bool, file: usize, kind: u8, place: usize) -> Seen
-    ensures { λ r. ⌜ Chosen help file kind place r ⌝ }
+// What is seen once a word of this kind stands at a place where an option is expected, or the first of several names where the
+// program needs them, behind words that are right.
+fn with_option(names: bool, help: bool, file: usize, kind: u8, place: usize) -> Seen
+    ensures { λ r. ⌜ Follows (Seen.Right names help file) kind place r ⌝ }
 {
     if kind == HELP {
         if help {
             return Seen::Wrong(place);
         }
-        return Seen::Right(true, file);
+        return Seen::Right(names, true, file);
     }
     if kind == STEPS {
         if 0 < file {
             return Seen::Wrong(place);
         }
-        return Seen::File(help);
+        return Seen::File(names, help);
+    }
+    if kind != PLAIN {
+        return Seen::Wrong(place);
+    }
+    if names {
+        return Seen::Names(help, file, place);
     }
     Seen::Wrong(place)
 }
@@ -83,16 +88,27 @@ fn with_name(help: bool, kind: u8, place: usize) -> Seen
     Seen::Named(help, place)
 }
 
+// What is seen once a word of this kind stands at a place behind names, of which the first stands at `first`.
+fn with_another(help: bool, file: usize, first: usize, kind: u8, place: usize) -> Seen
+    ensures { λ r. ⌜ Follows (Seen.Names help file first) kind place r ⌝ }
+{
+    if kind != PLAIN {
+        return Seen::Wrong(place);
+    }
+    Seen::Names(help, file, first)
+}
+
 // What is seen once a word of this kind stands at the place behind those that were seen. The word behind `--steps` is its
-// file, whatever it is; behind the file that the program needs none is expected.
+// file, whatever it is; behind the one file that a program needs none is expected.
 fn with_word(seen: Seen, kind: u8, place: usize) -> Seen
     ensures { λ r. ⌜ Follows seen kind place r ⌝ }
 {
     match seen {
-        Seen::Right(help, file) => with_option(help, file, kind, place),
-        Seen::File(help) => Seen::Right(help, place),
+        Seen::Right(names, help, file) => with_option(names, help, file, kind, place),
+        Seen::File(names, help) => Seen::Right(names, help, place),
         Seen::Unnamed(help) => with_name(help, kind, place),
         Seen::Named(_, _) => Seen::Wrong(place),
+        Seen::Names(help, file, first) => with_another(help, file, first, kind, place),
         Seen::Wrong(first) => Seen::Wrong(first),
     }
 }
@@ -107,15 +123,26 @@ fn unless_help(help: bool, asked: Asked) -> Asked
     asked
 }
 
+// What is asked by options alone: the work, or names that are missing where the program needs them.
+fn options_alone(names: bool, file: usize) -> Asked
+    ensures { λ r. ⌜ r ≡ optionsAlone names file ⌝ }
+{
+    if names {
+        return Asked::Lacks(Needer::Program);
+    }
+    Asked::Work(file)
+}
+
 // What is asked by the words that were seen, where no others follow.
 fn asked_by(seen: Seen) -> Asked
     ensures { λ r. ⌜ Ends seen r ⌝ }
 {
     match seen {
-        Seen::Right(help, file) => unless_help(help, Asked::Work(file)),
-        Seen::File(_) => Asked::Lacks,
-        Seen::Unnamed(help) => unless_help(help, Asked::Lacks),
+        Seen::Right(names, help, file) => unless_help(help, options_alone(names, file)),
+        Seen::File(_, _) => Asked::Lacks(Needer::Option),
+        Seen::Unnamed(help) => unless_help(help, Asked::Lacks(Needer::Program)),
         Seen::Named(help, file) => unless_help(help, Asked::Work(file)),
+        Seen::Names(help, file, first) => unless_help(help, Asked::Each(file, first)),
         Seen::Wrong(first) => Asked::Wrong(first),
     }
 }
@@ -125,22 +152,10 @@ fn none_seen(form: Form) -> Seen
     ensures { λ r. ⌜ Begins form r ⌝ }
 {
     match form {
-        Form::Steps => Seen::Right(false, 0),
+        Form::Steps => Seen::Right(false, false, 0),
         Form::Name => Seen::Unnamed(false),
+        Form::Names => Seen::Right(true, false, 0),
     }
-}
-
-// What is asked of a program of this form by words of these kinds.
-fn decide(form: Form, kinds: &[u8]) -> Asked
-    ensures { λ r. ⌜ r ≡ askedOf form (now (kinds .entry)) ⌝ }
-{
-    let mut seen = none_seen(form);
-    let mut i: usize = 0;
-    while i < kinds.len() {
-        seen = with_word(seen, kinds[i], i + 1);
-        i += 1;
-    }
-    asked_by(seen)
 }
 
 // Reads the word at a place, one that is too long by its beginning. Returns how many bytes it has. Which bytes are read is
@@ -162,24 +177,16 @@ fn read_kind(place: usize) -> u8 {
     kind_of(&word[..got])
 }
 
-// Reads the kinds of the first words, as many as are there and there is room for. Returns how many.
-fn read_kinds(kinds: &mut [u8]) -> usize
-    ensures { λ r. ⌜ Counts r (now (kinds .exit)) ⌝ }
+// What the words of a program of this form ask for, from the first at place 1 to the last before the place `end`. Which words
+// they are is open; their kinds are looked at in their order, one after the other.
+pub fn read_asked(form: Form, end: usize) -> Asked
+    ensures { λ r. ⌜ AskedBefore form end r ⌝ }
 {
-    let mut i: usize = 0;
-    while i < kinds.len() {
-        if os::arg_count() <= i + 1 {
-            return i;
-        }
-        kinds[i] = read_kind(i + 1);
-        i += 1;
+    let mut seen = none_seen(form);
+    let mut place: usize = 1;
+    while place < end {
+        seen = with_word(seen, read_kind(place), place);
+        place += 1;
     }
-    i
-}
-
-// What the words of a program of this form ask for.
-pub fn read_asked(form: Form) -> Asked {
-    let mut kinds = [OTHER; LOOKED];
-    let count = read_kinds(&mut kinds);
-    decide(form, &kinds[..count])
+    asked_by(seen)
 }

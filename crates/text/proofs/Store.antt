@@ -149,3 +149,13 @@ was-stored {s} {text} {after} {at} {end} {answer} is r = by (leb (at + length te
         → answer ≡ cond b (At (at + length text)) NoRoom → (at + length text ≤ length s) × Stored s at text end after
     by true e f g = (leb-true _ _ e, record { bytes = f; next = cc })
     by false e f g = let z : _≡_ {A = ℕ} 0 1 = cc in absurd (omega arith)
+
+-- The place behind a text lies in its list, whether it was stored or not.
+pub behind-within : {s text after : List ℕ} {at end : ℕ} {answer : Put} → at ≤ length s → Answered s at text answer after → end ≡ placeBehind at answer
+    → end ≤ length after
+behind-within {s} {text} {after} {at} {end} l r e = by (leb (at + length text) (length s)) refl (r .bytes) (e ∙ ap (placeBehind at) (r .next))
+  where
+    by : (b : Bool) → leb (at + length text) (length s) ≡ b → after ≡ cond b (put s at text) s
+        → end ≡ placeBehind at (cond b (At (at + length text)) NoRoom) → end ≤ length after
+    by true f g h = rw (g, length-put s at text (leb-true _ _ f)) (omega (arith, leb-true (at + length text) (length s) f))
+    by false f g h = rw g (omega arith)

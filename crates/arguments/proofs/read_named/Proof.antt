@@ -1,4 +1,4 @@
--- `arguments::read_named` meets its contract: the bytes are those of `read_file`.
+-- `arguments::read_named` meets its contract: the bytes are those of `read_at`.
 use mathlib.Core.Path.{sym, subst}
 use lib.ListN.{length}
 use Rattle.arguments.specs.Words.{Fits}
@@ -9,23 +9,9 @@ use Rattle.arguments.proofs.read_named.Tie as tie
 
 returns-2 : tie.Need-returns-2
 returns-2 c =
-    let r = c .before .before .before .before .before .before in
-    let room = length (r .read-file .last .1 .0) in
-    subst (Fits room) (sym (c .order-of .ensures)) (order-fits (r .read-file .result) room (r .read-file .ensures))
+    let r = c .before .before .before .before .read-at in
+    subst (Fits (length (r .last .1 .1 .1 .0))) (sym (c .order-of .ensures)) (order-fits (r .result) _ _ (r .ensures))
 
 pub read-named-spec : {M : Type 1} → statement M
 read-named-spec =
-    tie.close
-    (tie.spec
-    (λ c. search needs)
-    (λ c. search needs)
-    (λ c κs. search needs)
-    (λ c. search needs)
-    (λ c. search needs)
-    (λ c κs. search needs)
-    (λ c. search needs)
-    (λ c. search needs)
-    (λ c κs. search needs)
-    (λ c κs. search needs)
-    (λ c. search needs)
-    returns-2)
+    tie.close (tie.spec (λ c. search needs) (λ c. search needs) (λ c κs. search needs) (λ c κs. search needs) (λ c. search needs) returns-2)
