@@ -1,1 +1,2 @@
 -- The laws of reports.
+pub mod Counts
