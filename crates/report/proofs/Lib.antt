@@ -1,2 +1,3 @@
 -- The laws of reports.
 pub mod Counts
+pub mod Sums
