@@ -1,3 +1,4 @@
 -- The laws of reports.
 pub mod Counts
 pub mod Sums
+pub mod Written
