@@ -2,3 +2,4 @@
 pub mod Counts
 pub mod Sums
 pub mod Written
+mod Cases

@@ -18,6 +18,7 @@ use Rattle.line.specs.Chains.{none, next}
 use Rattle.machine.specs.Caps.{JunctionCaps}
 use Rattle.machine.proofs.Bounds.{short}
 use Rattle.tape.specs.Tape.{recordAt, recordsIn}
+use Rattle.tape.specs.Answers.{mostBlocks}
 use Rattle.tape.proofs.Faults.{neither, tape-passed}
 use Rattle.tapeplan.specs.Planned.{wholeFault, wholeRefusal}
 use Rattle.tapeplan.proofs.Answered.{whole-passed}
@@ -59,21 +60,21 @@ record AtMost (bound : ℕ) (f : Figures) : Type 0 where
 abbrev most : ℕ
 most = 2 ^ 36
 
+held-at-most : (by : JunctionCaps → ℕ → Bool) (s loaded : List ℕ) → recordsIn s ≤ mostBlocks → heldOf by s loaded (innerIn s) ≤ most
+held-at-most by s loaded few = omega (arith, count-below (λ i. by (capsAt s i) (speedAt s loaded i)) (innerIn s))
+
 tape-at-most : (s loaded : List ℕ) → wholeRefusal s loaded ≡ 0 → AtMost most (figuresOf s loaded)
 tape-at-most s loaded e =
     let passed = whole-passed s loaded e .0 in
     let few = accepted-records s passed in
     let each : (k : ℕ) → k < recordsIn s → lengthAt s k ≤ 2 ^ 25 = λ k h. omega (arith, short (recordAt s k) (tape-passed s passed .1 k h)) in
-    let inner : (by : JunctionCaps → ℕ → Bool) → heldOf by s loaded (innerIn s) ≤ most
-        = λ by. omega (arith, count-below (λ i. by (capsAt s i) (speedAt s loaded i)) (innerIn s))
-    in
     record {
       blocks = omega arith;
       length = omega (arith, sum-below (lengthAt s) (2 ^ 25) (recordsIn s) each);
-      feed = inner byFeed;
-      corner = inner byCorner;
-      chord = inner byChord;
-      reach = inner byReach;
+      feed = held-at-most byFeed s loaded few;
+      corner = held-at-most byCorner s loaded few;
+      chord = held-at-most byChord s loaded few;
+      reach = held-at-most byReach s loaded few;
     }
 
 -- of so many accepted tapes with one more no sum is cut
@@ -153,14 +154,9 @@ module _ {report report₁ report′ : List ℕ} {j : Job} {jobs : List Job} {an
       let passed = add-passed t j z in
       let bound = tape-at-most (j .tape) (j .steps) (passed .1) in
       let sums = exact t a (own t j) (passed .0) (begin .at-most) bound in
-      let next =
-          rest (suc t) (together a (own t j))
-          (record {
-            has = left ∙ at-zero _ _ z ∙ (λ i. reportNumbers (add-one t i) (sums i));
-            room = omega arith;
-            at-most = more-at-most t a (own t j) (begin .at-most) bound;
-          })
-      in
+      let has = left ∙ at-zero _ _ z ∙ (λ i. reportNumbers (add-one t i) (sums i)) in
+      let bounds = more-at-most t a (own t j) (begin .at-most) bound in
+      let next = rest (suc t) (together a (own t j)) (record { has = has; room = omega arith; at-most = bounds }) in
       let list = acceptedOf (suc t) jobs in
       let all = accepted-first t j jobs z in
       let count : suc t + length list ≡ t + suc (length list) = omega arith in
@@ -198,6 +194,9 @@ sums-from none t a e =
     record { answers-are = refl; few = omega (arith, e .room); numbers-are = e .has ∙ (λ i. reportNumbers (zeros i) (none-more a i)) }
 sums-from (next done more) t a e = one-job t a e done (sums-from more)
 
+from-none : (a : Figures) → together noFigures a ≡ a
+from-none a = alike _ _ (omega arith) (omega arith) (omega arith) (omega arith) (omega arith) (omega arith) (omega arith)
+
 -- From a fresh report, for every list of tapes with loaded torque steps, refused ones included: each is answered by the tapes alone, at most 100 are
 -- accepted, and the report's numbers are how many and the exact figures of all of them.
 pub report-sums : {report : List ℕ} {jobs : List Job} {answers : List (Outcome Fault Figures)} → ReportedAll freshReport jobs answers report → ReportOf jobs answers report
@@ -205,10 +204,7 @@ report-sums {jobs} c =
     let fresh : AtMost 0 noFigures = record { blocks = omega arith; length = omega arith; feed = omega arith; corner = omega arith; chord = omega arith; reach = omega arith } in
     let all = sums-from c 0 noFigures (record { has = refl; room = omega arith; at-most = fresh }) in
     let count : 0 + length (acceptedOf 0 jobs) ≡ length (acceptedOf 0 jobs) = omega arith in
-    let same : together noFigures (totalOf (acceptedOf 0 jobs)) ≡ totalOf (acceptedOf 0 jobs)
-        = alike _ _ (omega arith) (omega arith) (omega arith) (omega arith) (omega arith) (omega arith) (omega arith)
-    in
-    record { answers-are = all .answers-are; few = omega (arith, all .few); numbers-are = all .numbers-are ∙ (λ i. reportNumbers (count i) (same i)) }
+    record { answers-are = all .answers-are; few = omega (arith, all .few); numbers-are = all .numbers-are ∙ (λ i. reportNumbers (count i) (from-none (totalOf (acceptedOf 0 jobs)) i)) }
 
 -- the figures of all
 pub report-figures : {report : List ℕ} {jobs : List Job} {answers : List (Outcome Fault Figures)} → ReportedAll freshReport jobs answers report
