@@ -10,19 +10,19 @@ use Rattle.fields.specs.Layouts.{joined, split}
 use Rattle.fields.specs.Bytes.{numberOf}
 use Rattle.fields.specs.Signed.{signedOf}
 use Rattle.profile.specs.Passes.{brake, startLimit, forward, planOf}
-use Rattle.machine.specs.Caps.{capsBetween, leastCap}
+use Rattle.machine.specs.Caps.{JunctionCaps, capsBetween, leastCap}
 use Rattle.machine.specs.Checks.{limitsRefusal, limitsWithin, greatestMove, blockRefusal}
 use Rattle.machine.specs.Labels.{labelledBlock}
 use Rattle.machine.specs.Line.{spansAfter, spansOf}
 use Rattle.machine.specs.Lists.{limitsFrom}
-use Rattle.machine.specs.Numbers.{lengthFrom, axisLimit, eachAxis, speedOf, axisAccel, accelOf, reachFrom, chordFactor, chordCap, blockCapFrom, numbersOf, turnFrom, cornerFrom, cornerCap, junctionCap, peakOf, rampOf}
+use Rattle.machine.specs.Numbers.{OpenCap, none, upTo, lengthFrom, axisLimit, eachAxis, speedOf, axisAccel, accelOf, reachFrom, chordFactor, chordCap, blockCapFrom, numbersOf, turnFrom, cornerFrom, cornerCap, junctionCap, peakOf, rampOf}
 use Rattle.machine.specs.Torque.{falling, stepsRefusal, torquePercent}
 use Rattle.tape.specs.Tape.{limitsAt, zeroBits, blockAt, blocksFrom, tapeBlocks}
 use Rattle.tape.specs.Answers.{limitsFault, headRefusal, faultFrom}
 use Rattle.tapeplan.specs.Planned.{tapePlan, wholeFault}
 use Rattle.report.specs.Counts.{countTo, greatestTo, listFrom, sumTo}
 use Rattle.report.specs.Figures.{tapeFigures}
-use Rattle.report.specs.Held.{heldBy, heldList}
+use Rattle.report.specs.Held.{capsAt, heldBy, heldList}
 use Rattle.report.specs.Report.{addFault}
 use Rattle.report.specs.declared.Figures.{Figures}
 
@@ -72,7 +72,7 @@ slowPair =
       figures = figures 2 2000 101_000_000 0 1 0 0;
     }
 
--- seven blocks: straight on, a right angle, two chords of radius 1 and two short blocks: by feed, corner, chord from the third to the fifth, and reach
+-- seven blocks: straight on, a right angle, two chords of radius 1 and two short blocks: feed, corner, chord three times, and reach
 mixed : Case
 mixed =
     record {
@@ -142,6 +142,15 @@ empty =
 worked : All Right (pair ∷ slowPair ∷ mixed ∷ backFeed ∷ backRadius ∷ straightRadius ∷ short ∷ empty ∷ [])
 unfolding machine pair slowPair mixed backFeed backRadius straightRadius short empty heldBy leastCap capsBetween listFrom countTo sumTo greatestTo tapeFigures wholeFault headRefusal limitsFault zeroBits limitsAt blockAt blocksFrom tapeBlocks faultFrom limitsFrom labelledBlock numberOf joined split signedOf limitsRefusal limitsWithin greatestMove blockRefusal falling stepsRefusal torquePercent rootOf rootByDigits nextRoot cappedQuotient lengthFrom axisLimit eachAxis speedOf axisAccel accelOf reachFrom chordFactor chordCap blockCapFrom numbersOf turnFrom cornerFrom cornerCap junctionCap peakOf rampOf spansAfter spansOf brake startLimit forward planOf
 worked = (refl, refl, refl) and (refl, refl, refl) and (refl, refl, refl) and (refl, refl, refl) and (refl, refl, refl) and (refl, refl, refl) and (refl, refl, refl) and (refl, refl, refl) and done
+
+-- the caps of the three that are tied
+abbrev caps : (feed : ℕ) (corner chord : OpenCap) → JunctionCaps
+caps feed corner chord = record { feed = feed; corner = corner; chord = chord }
+
+tied : (capsAt (backFeed .tape) 0 ≡ caps 1_000_000 (upTo 1_000_000) none) × (capsAt (backRadius .tape) 0 ≡ caps 400_000_000 (upTo 1_000_000) (upTo 1_000_000))
+    × (capsAt (straightRadius .tape) 0 ≡ caps 1_000_000 none (upTo 1_000_000))
+unfolding machine backFeed backRadius straightRadius capsBetween limitsAt limitsFrom blockAt labelledBlock numberOf joined split signedOf rootOf rootByDigits nextRoot cappedQuotient lengthFrom axisLimit eachAxis speedOf chordFactor chordCap turnFrom cornerFrom cornerCap
+tied = (refl, refl, refl)
 
 -- a tape of 5 bytes: 9 while there is room for one more, and 10 before it where there is none
 last : addFault 99 (replicate 5 0) [] ≡ 9 at 0

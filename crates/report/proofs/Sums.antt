@@ -13,7 +13,6 @@ use lib.Dec.{lit<, ltb}
 use lib.ListN.{length}
 use Rattle.display.specs.Display.{Fault, Outcome}
 use Rattle.display.proofs.Answers.{at-zero, above-zero, picked}
-use Rattle.profile.specs.Line.{numberAt}
 use Rattle.line.specs.Chains.{none, next}
 use Rattle.machine.specs.Caps.{JunctionCaps}
 use Rattle.machine.proofs.Bounds.{short}
