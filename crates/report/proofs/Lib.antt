@@ -1,6 +1,9 @@
 -- The laws of reports.
-pub mod Counts
-pub mod Rows
-pub mod Causes
 pub mod Accepted
 pub mod Answers
+pub mod Causes
+pub mod Counts
+pub mod Rows
+pub mod Sums
+pub mod Written
+mod Cases
