@@ -68,7 +68,7 @@ module _ (s loaded sheet plan : List ℕ) (passed : wholeRefusal s loaded ≡ 0)
       let n = recordsIn s in
       let lengths = sum-same (rowLength sheet) (lengthAt s) n (λ k h. ap (λ (r : Measured). r .numbers .length) (rows k h)) in
       let peaks = greatest-same (rowPeak sheet plan) (peakAt s loaded) n
-          (λ k h i. peakOf (rows k h i .numbers .cap) (rows k h i .numbers .reach) (speeds k (omega arith) i) (speeds (suc k) (omega arith) i)) in
+      (λ k h i. peakOf (rows k h i .numbers .cap) (rows k h i .numbers .reach) (speeds k (omega arith) i) (speeds (suc k) (omega arith) i)) in
       λ i.
       record {
         blocks = n;

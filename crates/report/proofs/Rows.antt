@@ -96,7 +96,7 @@ module _ (sheet plan : List ℕ) where
 
   pub rows-behind : (k : ℕ) → 0 < k
       → heldFigures (blockFigures (rowFigures sheet plan k) (measuredAt sheet k .numbers) (numberAt plan k) (numberAt plan (k + 1)))
-        (heldFrom (measuredAt sheet (k - 1)) (measuredAt sheet k) (numberAt plan k))
+      (heldFrom (measuredAt sheet (k - 1)) (measuredAt sheet k) (numberAt plan k))
       ≡ rowFigures sheet plan (k + 1)
   rows-behind zero h = absurd (omega arith)
   rows-behind (suc k) h =

@@ -11,10 +11,10 @@ ghost use lib.ListN.{length};
 ghost use Rattle.report.specs.Figures.{figuredMeans};
 ghost use Rattle.report.specs.Report.{Reported, added, allOf, freshReport, reportNumbers, reportSize, withFigures};
 use arith::whole::larger;
-use display::Refusal;
 use counting::none;
-use tapes::figures_of;
+use display::Refusal;
 use std::num::wrapping_add_u64;
+use tapes::figures_of;
 
 // Numbers of a report: how many tapes were accepted, and the seven figures of all of them.
 pub const NUMBERS: usize = 8;

@@ -1,12 +1,14 @@
 // The text of a report: the line `blocks length peak feed corner chord reach tape`, a line for each tape with its name, and a
 // line for all. Each is stored at the beginning of bytes that the caller lends, whole, or not at all where it has too little
 // room: it has at most `LINE` bytes beside the name, and the header at most as many.
-ghost use Rattle.report.specs.Figures.{figuredMeans};
+ghost use mathlib.Core.Path.{_≡_};
+ghost use lib.ListN.{length};
+ghost use Rattle.report.specs.Figures.{figureCount, figuredMeans};
 ghost use Rattle.report.specs.Report.{allOf};
 ghost use Rattle.report.specs.Text.{PutLine, allWord, figuresLine, reportHeader, tapeLine};
 ghost use Rattle.display.specs.Display.{refusalNumber};
 ghost use Rattle.text.specs.Store.{Answered};
-ghost use Rattle.text.specs.Text.{refusedNamed};
+ghost use Rattle.text.specs.Text.{namedRow, refusedNamed};
 use crate::Figured;
 use crate::Figures;
 use crate::NUMBERS;
@@ -27,7 +29,19 @@ pub const LINE: usize = 21 * FIGURES + 1;
 pub fn put_header(text: &mut [u8]) -> Put
     ensures { λ r. ⌜ Answered (now (text .entry)) 0 reportHeader r (now (text .exit)) ⌝ }
 {
-    put_bytes(text, 0, b"blocks length peak feed corner chord reach tape\n")
+    put_bytes(
+        text,
+        0,
+        b"blocks length peak feed corner chord reach tape\n",
+    )
+}
+
+// Stores the seven numbers of figures and a name.
+fn put_numbers(numbers: &[u64], name: &[u8], text: &mut [u8]) -> Put
+    requires { ⌜ length (now numbers) ≡ figureCount ⌝ }
+    ensures { λ r. ⌜ PutLine (namedRow (now (numbers .entry)) (now (name .entry))) (now (name .entry)) (now (text .entry)) r (now (text .exit)) ⌝ }
+{
+    put_named_row(text, 0, numbers, name)
 }
 
 // Stores the line of figures with a name.
@@ -36,7 +50,7 @@ fn put_figures(f: Figures, name: &[u8], text: &mut [u8]) -> Put
 {
     let mut numbers = [0u64; FIGURES];
     store_figures(f, &mut numbers);
-    put_named_row(text, 0, &numbers, name)
+    put_numbers(&numbers, name, text)
 }
 
 // Stores the line of a refusal with a name.

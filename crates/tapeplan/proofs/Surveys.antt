@@ -98,7 +98,7 @@ module _ (m : Machine) (s : List ℕ) where
       let back : k ≡ k + 1 - 1 = omega arith in
       let gauged : g ≡ gaugedOf m (recordAt s k) = q ∙ ap (gaugedOf m) e in
       let turns : corner ≡ cornerAt m s k =
-          f ∙ (λ i. cond (eqb k 0) 0 (cornerBeside (m .limits .jump) before known (e i) (gauged i .numbers))) ∙ corner-is k (v .previous) in
+      f ∙ (λ i. cond (eqb k 0) 0 (cornerBeside (m .limits .jump) before known (e i) (gauged i .numbers))) ∙ corner-is k (v .previous) in
       record {
         passed = passed-next s (v .passed) h (ap blockRefusal (sym e) ∙ p);
         measured = measures-next m s k (v .measured) keeps (λ i. measuredBy (e i) (gauged i) (turns i));

@@ -73,7 +73,7 @@ module _ (s loaded : List ℕ) where
     whole-planned {sheet} {sheet′} {planned} r =
         let same : planFault s loaded (length (take n before)) ≡ wholeFault s loaded = ap (planFault s loaded) (lent-length ∙ count) ∙ fault-same in
         let list = ap (λ (j : ℕ). planned ++ drop j before) count
-            ∙ plan-over before (r .planned .list ∙ (λ i. byNumber (same i .number) (tapePlan s loaded) (take (count i) before))) in
+        ∙ plan-over before (r .planned .list ∙ (λ i. byNumber (same i .number) (tapePlan s loaded) (take (count i) before))) in
         record {
           fault = r .planned .fault ∙ same;
           sized = ap length list ∙ over-sized before size;

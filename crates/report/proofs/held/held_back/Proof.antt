@@ -1,74 +1,81 @@
+-- `report::held::held_back`: the answer of planning decides, and then the list's length. From the laws of an accepted tape and of answers.
+use mathlib.Core.Path.{_≡_, refl, sym, ap, _∙_}
+use mathlib.Core.List.{List}
+use Prim.Native.Nat.{ℕ, _-_}
+use native.Mathlib.Omega.{arith}
+use lib.ListN.{length}
+use Rattle.tape.specs.Tape.{recordsIn}
+use Rattle.tapeplan.specs.Planned.{plannedMeans}
+use Rattle.report.specs.Counts.{listFrom}
+use Rattle.report.specs.Figures.{rowHeld}
+use Rattle.report.proofs.Accepted.{planned-few, planned-held, planned-passed}
+use Rattle.report.proofs.Answers.{held-filled, held-refused, held-short}
 use borrow.Author.Needs.{needs}
 use Rattle.report.proofs.held.held_back.Statement.{statement}
 use Rattle.report.proofs.held.held_back.Tie as tie
-use Rattle.report.proofs.held.held_back.Reads as reads
-use Rattle.report.proofs.held.held_back.Lts as lts
-use Rattle.report.proofs.held.inner_of.Reads as inner-of-reads
-use Rattle.report.proofs.held.store_held.Reads as store-held-reads
-use Rattle.tape.proofs.records.records_in.Reads as records-in-reads
-use Rattle.tapeplan.proofs.whole.plan_whole.Reads as plan-whole-reads
 
--- src/held.rt:81:11
-plan-whole-requires : tie.Need-plan-whole-requires
-plan-whole-requires c κs = search needs
+-- a tape that is planned, and how many inner junctions it has
+module _ (c : tie.After-inner-of) where
+  abbrev told : tie.After-enum-told
+  told = c .before .before
 
--- src/held.rt:82:30
-enum-known-why : tie.Need-enum-known-why
-enum-known-why c = search needs
+  abbrev planned : tie.After-plan-whole
+  planned = told .before .before
 
--- src/held.rt:84:16
-enum-told : tie.Need-enum-told
-enum-told c = search needs
+  abbrev start : tie.Start
+  start = planned .before .before .before .before .before .before
 
--- src/held.rt:84:39
-records-in-requires : tie.Need-records-in-requires
-records-in-requires c κs = search needs
+  abbrev tape : List ℕ
+  tape = start .args .s .now
 
--- src/held.rt:84:30
-inner-of-requires : tie.Need-inner-of-requires
-inner-of-requires c κs = search needs
+  inner : c .inner-of .result ≡ recordsIn tape - 1
+  inner = c .inner-of .ensures ∙ ap (λ (n : ℕ). n - 1) (c .before .records-in .ensures)
 
--- src/held.rt:85:17
 returns : tie.Need-returns
-returns c = ?
+returns c =
+    let k = c .before in
+    let a = start k .args in
+    held-short (tape k) (a .steps .now) (a .list .now) (planned-passed (planned k .plan-whole .ensures) (told k .enum-told .given .1)) (λ e. c .if1 .taken (e ∙ sym (inner k)))
 
--- src/held.rt:87:24
-slice-aggregate-store-held : tie.Need-slice-aggregate-store-held
-slice-aggregate-store-held c = search needs
-
--- src/held.rt:87:32
-slice-aggregate-store-held-2 : tie.Need-slice-aggregate-store-held-2
-slice-aggregate-store-held-2 c = search needs
-
--- src/held.rt:87:13
 store-held-requires : tie.Need-store-held-requires
-store-held-requires c κs = search needs
+store-held-requires c κs =
+    let k = c .before .before .before .before in
+    let w = planned k .plan-whole .ensures in
+    let few = planned-few w (told k .enum-told .given .1) in
+    let size = c .before .before .before .if1 .left in
+    (omega (arith, w .sheet-after .sized, few, size, inner k), omega (arith, w .sized, few, size, inner k))
 
--- src/held.rt:76:1
 returns-2 : tie.Need-returns-2
-returns-2 c = ?
+returns-2 c =
+    let why = c .before .why .given in
+    let p = c .before .before .before in
+    let a = p .before .before .before .before .before .before .args in
+    held-refused (a .s .now) (a .steps .now) (a .list .now) (why .0 .0) (why .0 .1 .0) (sym (ap plannedMeans (why .1)) ∙ p .plan-whole .ensures .fault)
 
--- src/held.rt:76:1
-same-length : tie.Need-same-length
-same-length c = search needs
-
--- src/held.rt:76:1
 returns-3 : tie.Need-returns-3
-returns-3 c = ?
+returns-3 c =
+    let stored = c .before .before in
+    let left = stored .before .before .before .before in
+    let k = left .before in
+    let a = start k .args in
+    let w = planned k .plan-whole .ensures in
+    let is = told k .enum-told .given .1 in
+    let size = left .if1 .left ∙ inner k in
+    held-filled (tape k) (a .steps .now) (a .list .now) (planned-passed w is) size (stored .store-held .ensures ∙ ap (listFrom (rowHeld (planned k .plan-whole .last .1 .1 .0) (planned k .plan-whole .last .1 .1 .1 .0)) 0) size ∙ planned-held w is)
 
 pub held-back-spec : {M : Type 1} → statement M
 held-back-spec =
     tie.close
     (tie.spec
-    plan-whole-requires
-    enum-known-why
-    enum-told
-    records-in-requires
-    inner-of-requires
+    (λ c κs. search needs)
+    (λ c. search needs)
+    (λ c. search needs)
+    (λ c κs. search needs)
+    (λ c κs. search needs)
     returns
-    slice-aggregate-store-held
-    slice-aggregate-store-held-2
+    (λ c. search needs)
+    (λ c. search needs)
     store-held-requires
     returns-2
-    same-length
+    (λ c. search needs)
     returns-3)

@@ -34,8 +34,8 @@ loop-again c =
     let a = l .before .before .before .before .args in
     let i = l .loop .i in
     let stored =
-        c .held-by .ensures ∙ (λ j. heldFrom (m .before .measured-at .ensures j) (m .measured-at2 .ensures j) (numberAt (a .plan .now) (i + 1)))
-        ∙ held-between (a .sheet .now) (a .plan .now) i in (
+    c .held-by .ensures ∙ (λ j. heldFrom (m .before .measured-at .ensures j) (m .measured-at2 .ensures j) (numberAt (a .plan .now) (i + 1)))
+    ∙ held-between (a .sheet .now) (a .plan .now) i in (
       search needs,
       search needs,
       list-next (rowHeld (a .sheet .now) (a .plan .now)) (a .list .now) (l .loop .list) i (c .held-by .result) (search needs) stored (l .loop .inv .2),

@@ -1,27 +1,27 @@
+-- `report::lines::put_refusal`: from the length of a refusal's line with a name.
+use mathlib.Core.Path.{subst}
+use native.Mathlib.Omega.{arith}
+use Prim.Native.Nat.{ℕ}
+use Rattle.text.specs.Text.{refusedNamed}
+use Rattle.text.proofs.Lines.{refused-named-most}
+use Rattle.report.specs.Text.{PutLine}
 use borrow.Author.Needs.{needs}
 use Rattle.report.proofs.lines.put_refusal.Statement.{statement}
 use Rattle.report.proofs.lines.put_refusal.Tie as tie
-use Rattle.report.proofs.lines.put_refusal.Reads as reads
-use Rattle.report.proofs.lines.put_refusal.Lts as lts
-use Rattle.display.proofs.refusal_number.Reads as refusal-number-reads
-use Rattle.text.proofs.put_refused_named.Reads as put-refused-named-reads
 
--- src/lines.rt:46:32
-refusal-number-requires : tie.Need-refusal-number-requires
-refusal-number-requires c κs = search needs
-
--- src/lines.rt:46:5
-put-refused-named-requires : tie.Need-put-refused-named-requires
-put-refused-named-requires c κs = search needs
-
--- src/lines.rt:43:1
-same-length : tie.Need-same-length
-same-length c = search needs
-
--- src/lines.rt:43:1
 returns : tie.Need-returns
-returns c = ?
+returns c =
+    let put = c .before .before in
+    let number = put .before in
+    let s = number .before .before .before .before in
+    let a = s .args in
+    subst (λ (n : ℕ). PutLine (refusedNamed n (a .place) (a .name .now)) (a .name .now) (a .text .now) (put .put-refused-named .result) (put .put-refused-named .last .0))
+    (number .refusal-number .ensures) (
+    record {
+      answered = put .put-refused-named .ensures;
+      short = omega (arith, refused-named-most (number .refusal-number .result) (a .place) (a .name .now) (number .refusal-number .ok) (s .fits .place .fits));
+    }
+    )
 
 pub put-refusal-spec : {M : Type 1} → statement M
-put-refusal-spec =
-    tie.close (tie.spec refusal-number-requires put-refused-named-requires same-length returns)
+put-refusal-spec = tie.close (tie.spec (λ c κs. search needs) (λ c κs. search needs) (λ c. search needs) returns)
