@@ -1,10 +1,13 @@
-//! The numbers of a block and a junction by division, for the benchmark.
+//! The numbers of a block and a junction by division, for the benchmark, and the
+//! plan and the figures of blocks from these.
 //!
-//! Each function gives what its namesake in `machine` finds by search.
+//! Each function gives what its namesake in `machine` or `report` finds by
+//! search.
 
 use crate::machine::{chord_bound, parts, torque_step};
 use crate::machine::{Block, Limits, Machine, Numbers, Ramp};
 use crate::plan::{highest, Course};
+use crate::report::{Figures, HeldBy};
 
 /// All numbers of a block that passes checks 2 to 6.
 pub fn numbers_of(machine: &Machine, block: &Block) -> Numbers {
@@ -99,7 +102,16 @@ fn half_up(change: u64, accel: u64) -> u64 {
 
 /// Plan of checked blocks from rest to rest, (µm/s)².
 pub fn plan_of(machine: &Machine, blocks: &[Block]) -> Option<Vec<u64>> {
-    let numbers: Vec<Numbers> = blocks.iter().map(|b| numbers_of(machine, b)).collect();
+    plan_with(machine, blocks, &all_numbers(machine, blocks))
+}
+
+/// The numbers of each block.
+fn all_numbers(machine: &Machine, blocks: &[Block]) -> Vec<Numbers> {
+    blocks.iter().map(|b| numbers_of(machine, b)).collect()
+}
+
+/// The plan of blocks whose numbers are known.
+fn plan_with(machine: &Machine, blocks: &[Block], numbers: &[Numbers]) -> Option<Vec<u64>> {
     let known = |k: usize| (&blocks[k], &numbers[k]);
     let cap = |k: usize| junction_cap(&machine.limits, known(k - 1), known(k));
     highest(&Course {
@@ -107,4 +119,56 @@ pub fn plan_of(machine: &Machine, blocks: &[Block]) -> Option<Vec<u64>> {
         caps: (1..blocks.len()).map(cap).collect(),
         reaches: numbers.iter().map(|n| n.reach).collect(),
     })
+}
+
+/// The figures of checked blocks planned from rest to rest.
+pub fn figures_of(machine: &Machine, blocks: &[Block]) -> Option<Figures> {
+    let numbers = all_numbers(machine, blocks);
+    let plan = plan_with(machine, blocks, &numbers)?;
+    let mut figures = Figures {
+        blocks: blocks.len() as u64,
+        ..Figures::default()
+    };
+    for (k, number) in numbers.iter().enumerate() {
+        let ramp = ramp_of(number, plan[k], plan[k + 1]);
+        figures.length += number.length;
+        figures.peak = figures.peak.max(ramp.peak);
+    }
+    for k in 1..blocks.len() {
+        let known = |k: usize| (&blocks[k], &numbers[k]);
+        match held_at(&machine.limits, known(k - 1), known(k), plan[k]) {
+            HeldBy::Feed => figures.feed += 1,
+            HeldBy::Corner => figures.corner += 1,
+            HeldBy::Chord => figures.chord += 1,
+            HeldBy::Reach => figures.reach += 1,
+        }
+    }
+    Some(figures)
+}
+
+/// What holds a junction at a plan's squared speed, (µm/s)², which is at most
+/// its cap. The corner cap is at most that speed where one more does not pass.
+fn held_at(
+    limits: &Limits,
+    before: (&Block, &Numbers),
+    after: (&Block, &Numbers),
+    plan: u64,
+) -> HeldBy {
+    let speed = before.1.speed.min(after.1.speed);
+    let unbounded = [before, after].map(|(block, numbers)| {
+        let cap = plan + 1;
+        (block, Numbers { cap, ..*numbers })
+    });
+    let [first, second] = unbounded
+        .each_ref()
+        .map(|(block, numbers)| (*block, numbers));
+    if plan == speed * speed {
+        HeldBy::Feed
+    } else if plan == junction_cap(limits, first, second) {
+        HeldBy::Corner
+    } else if plan == before.1.cap.min(after.1.cap) {
+        HeldBy::Chord
+    } else {
+        HeldBy::Reach
+    }
 }
