@@ -213,9 +213,9 @@ fn refused_tapes_take_no_place() {
     let mixed = what_held().pack();
     for k in 0..100 {
         assert_eq!(refused(report.add(&still(), &[])), (2, 1));
+        assert_eq!(refused(report.add(&mixed[..k % 24], &[])), (9, 0));
         let tape = if k % 2 == 0 { &mixed } else { &pair() };
         report.add(tape, &[]).expect("room for a tape");
-        assert_eq!(refused(report.add(&mixed[..k % 24], &[])), (9, 0));
         assert_eq!(report.tapes, k as u64 + 1);
     }
     assert_eq!(refused(report.add(&pair(), &[])), (10, 0));
