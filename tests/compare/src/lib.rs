@@ -5,7 +5,8 @@
 //! all that is lent to be read stay as they were, and on a refusal everything
 //! lent (but for the place of a tape's or a text's fault, which every call
 //! writes). `programs` runs planlist, planreplay and planorders, with a file of
-//! torque steps or without, and ngctape with a file of limits. `words` has the
+//! torque steps or without, ngctape with a file of limits, and planreport with
+//! files of tapes. `words` has the
 //! lists of numbers that stand for limits, blocks and blocks given out,
 //! `traces` runs a trace on the reference as the library does, `lines` plans
 //! blocks on both, and `texts` compares the records of a text. `ring` is a
