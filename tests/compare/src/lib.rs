@@ -6,7 +6,7 @@
 //! lent (but for the place of a tape's or a text's fault, which every call
 //! writes). `programs` runs planlist, planreplay and planorders, with a file of
 //! torque steps or without, ngctape with a file of limits, and planreport with
-//! files of tapes. `words` has the
+//! files of tapes; `devices` are what they can be made to read from. `words` has the
 //! lists of numbers that stand for limits, blocks and blocks given out,
 //! `traces` runs a trace on the reference as the library does, `lines` plans
 //! blocks on both, and `texts` compares the records of a text. `ring` is a
@@ -16,6 +16,7 @@
 //! A run begins with the seed 0, or with the one that the variable SEED says
 //! (`SEED=n make test`), and each test takes the seeds from there on in turn.
 
+pub mod devices;
 pub mod guarded;
 pub mod hosts;
 pub mod library;
