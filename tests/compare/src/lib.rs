@@ -6,8 +6,8 @@
 //! lent (but for the place of a tape's or a text's fault, which every call
 //! writes). `programs` runs planlist, planreplay and planorders, with a file of
 //! torque steps or without, ngctape with a file of limits, and planreport with
-//! files of tapes; `devices` are what they can be made to read from. `words` has the
-//! lists of numbers that stand for limits, blocks and blocks given out,
+//! files of tapes; `devices` has what they can be made to read from. `words` has
+//! the lists of numbers that stand for limits, blocks and blocks given out,
 //! `traces` runs a trace on the reference as the library does, `lines` plans
 //! blocks on both, and `texts` compares the records of a text. `ring` is a
 //! planner's memory by the promise of its calls, and `memories` has memories of

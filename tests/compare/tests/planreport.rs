@@ -482,7 +482,7 @@ blocks length peak feed corner chord reach tape
 refused 9 at 0 cut
 refused 2 at 1 still
 0 0 0 0 0 0 0 limits only
-364 217313 40000000000 3 27 285 43 all
+364 221313 40000000000 3 28 285 43 all
 ";
     assert_eq!(folder.expect(0, &names), text);
     let none = "blocks length peak feed corner chord reach tape\n0 0 0 0 0 0 0 all\n";
