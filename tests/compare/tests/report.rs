@@ -349,74 +349,60 @@ fn there_and_back(feed: u64, radius: u64) -> Vec<u8> {
     on_m(&[along([1_000, 0, 0]), along([-1_000, 0, 0])])
 }
 
-/// Figures worked out by hand, and what held each inner junction.
-#[test]
-fn worked_tapes_have_these_figures() {
+/// A tape, its figures, and what held each inner junction.
+type Worked = (Vec<u8>, [u64; 7], Vec<u64>);
+
+/// A block there and back: the three caps of the junction are 1,000,000 (µm/s)²,
+/// but for a feed other than 1,000 µm/s and without a radius.
+fn worked_tie(feed: u64, radius: u64, by: usize) -> Worked {
+    let mut figures = [2, 2_000, 1_000_000, 0, 0, 0, 0];
+    figures[3 + by] = 1;
+    (there_and_back(feed, radius), figures, vec![by as u64])
+}
+
+/// Tapes whose figures were worked out by hand.
+fn worked() -> Vec<Worked> {
     let (east, short) = (block([1_000, 0, 0]), block([10, 0, 0]));
     let curved = Block { radius: 1, ..short };
-    let pair = right_angle().pack();
-    let half = [50; 8];
-    let cases: [(Vec<u8>, &[u8], [u64; 7], &[u64]); 11] = [
-        (pair.clone(), &[], [2, 2_000, 201_000_000, 0, 1, 0, 0], &[1]),
-        (pair, &half, [2, 2_000, 101_000_000, 0, 1, 0, 0], &[1]),
-        (
-            on_m(&[east; 2]),
-            &[],
-            [2, 2_000, 400_000_000, 1, 0, 0, 0],
-            &[0],
-        ),
+    let straight = [2, 2_000, 400_000_000, 1, 0, 0, 0];
+    let tight = [3, 30, 2_500_000, 0, 0, 2, 0];
+    let mixed = [7, 3_210, 400_000_000, 1, 1, 3, 1];
+    vec![
+        (on_m(&[]), [0; 7], vec![]),
+        (on_m(&[east]), [1, 1_000, 200_000_000, 0, 0, 0, 0], vec![]),
+        (on_m(&[east; 2]), straight, vec![0]),
         (
             on_m(&[short; 3]),
-            &[],
             [3, 30, 6_000_000, 0, 0, 0, 2],
-            &[3, 3],
+            vec![3; 2],
         ),
-        (
-            on_m(&[curved, curved, short]),
-            &[],
-            [3, 30, 2_500_000, 0, 0, 2, 0],
-            &[2, 2],
-        ),
-        (
-            what_held().pack(),
-            &[],
-            [7, 3_210, 400_000_000, 1, 1, 3, 1],
-            &[0, 1, 2, 2, 2, 3],
-        ),
-        (
-            there_and_back(1_000, 0),
-            &[],
-            [2, 2_000, 1_000_000, 1, 0, 0, 0],
-            &[0],
-        ),
-        (
-            there_and_back(1_000, 1),
-            &[],
-            [2, 2_000, 1_000_000, 1, 0, 0, 0],
-            &[0],
-        ),
-        (
-            there_and_back(1_001, 1),
-            &[],
-            [2, 2_000, 1_000_000, 0, 1, 0, 0],
-            &[1],
-        ),
-        (
-            there_and_back(20_000, 1),
-            &[],
-            [2, 2_000, 1_000_000, 0, 1, 0, 0],
-            &[1],
-        ),
-        (on_m(&[]), &[], [0; 7], &[]),
-    ];
-    for (tape, steps, figures, junctions) in &cases {
-        let (answer, numbers) = reported(tape, steps);
-        assert_eq!(answer.map(|own| own.numbers()), Ok(*figures));
-        assert_eq!(numbers, [&[1][..], figures].concat()[..]);
-        let listed = held(proved::held_by, (tape, steps), junctions.len());
-        assert_eq!(listed, (Ok(()), junctions.to_vec()));
+        (on_m(&[curved, curved, short]), tight, vec![2; 2]),
+        (what_held().pack(), mixed, vec![0, 1, 2, 2, 2, 3]),
+        worked_tie(1_000, 0, 0),
+        worked_tie(1_000, 1, 0),
+        worked_tie(1_001, 1, 1),
+        worked_tie(20_000, 1, 1),
+    ]
+}
+
+/// Panics unless a tape has the figures, and its junctions are held so.
+fn expect_worked((tape, figures, junctions): &Worked, steps: &[u8]) {
+    let (answer, numbers) = reported(tape, steps);
+    assert_eq!(answer.map(|own| own.numbers()), Ok(*figures));
+    assert_eq!(numbers, [&[1][..], figures].concat()[..]);
+    let listed = held(proved::held_by, (tape, steps), junctions.len());
+    assert_eq!(listed, (Ok(()), junctions.clone()));
+}
+
+#[test]
+fn worked_tapes_have_these_figures() {
+    let all = worked();
+    all.iter().for_each(|tape| expect_worked(tape, &[]));
+    for (steps, peak) in [(&[][..], 201_000_000), (&[50; 8], 101_000_000)] {
+        let figures = [2, 2_000, peak, 0, 1, 0, 0];
+        expect_worked(&(right_angle().pack(), figures, vec![1]), steps);
     }
-    report(cases.len(), "worked tapes");
+    report(all.len() + 2, "worked tapes");
 }
 
 /// Pair, mixed, pair under half the torque, two refused, limits only, two more

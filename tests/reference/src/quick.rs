@@ -134,9 +134,9 @@ pub fn figures_of(machine: &Machine, blocks: &[Block]) -> Option<Figures> {
         figures.length += number.length;
         figures.peak = figures.peak.max(ramp.peak);
     }
-    for k in 1..blocks.len() {
-        let known = |k: usize| (&blocks[k], &numbers[k]);
-        match held_at(&machine.limits, known(k - 1), known(k), plan[k]) {
+    let known = |k: usize| (&blocks[k], &numbers[k]);
+    for (k, plan) in plan.iter().enumerate().take(blocks.len()).skip(1) {
+        match held_at(&machine.limits, known(k - 1), known(k), *plan) {
             HeldBy::Feed => figures.feed += 1,
             HeldBy::Corner => figures.corner += 1,
             HeldBy::Chord => figures.chord += 1,

@@ -149,6 +149,9 @@ fn still() -> Vec<u8> {
     [pack_limits(&machine_m(), 0), vec![0; 16]].concat()
 }
 
+/// A tape and steps, and the number and place by which they are refused.
+type Faulty<'a> = (&'a [u8], &'a [u8], (u64, u64));
+
 /// 10, 9, 1, 14 and the records, each before those behind it.
 #[test]
 fn refusals_in_their_order() {
@@ -158,7 +161,7 @@ fn refusals_in_their_order() {
     let mut behind = what_held().pack();
     behind[24 + 16 * 4..24 + 16 * 5].fill(0);
     behind[24 + 16 * 6..].fill(0);
-    let cases: [(&[u8], &[u8], (u64, u64)); 9] = [
+    let cases: [Faulty; 9] = [
         (&many, seven, (10, 0)),
         (&bad[..23], seven, (9, 0)),
         (&[&bad[..], &[0; 15]].concat(), seven, (9, 0)),
