@@ -45,16 +45,23 @@ fn block_cap(limits: &Limits, block: &Block, speed: u64) -> u64 {
     capped_quotient(bound, limits.tick * limits.tick, squared)
 }
 
+/// A block with its numbers.
+type Known<'a> = (&'a Block, &'a Numbers);
+
 /// Junction cap, (µm/s)², of two blocks with their numbers.
-pub fn junction_cap(limits: &Limits, before: (&Block, &Numbers), after: (&Block, &Numbers)) -> u64 {
-    let smaller = before.1.cap.min(after.1.cap);
+pub fn junction_cap(limits: &Limits, before: Known, after: Known) -> u64 {
+    under_corner(limits, before, after, before.1.cap.min(after.1.cap))
+}
+
+/// Smaller of `cap` and the corner cap, if there is one, of two blocks, (µm/s)².
+fn under_corner(limits: &Limits, before: Known, after: Known, cap: u64) -> u64 {
     let p = (before.1.length * after.1.length) as i64;
     let s = dot(before.0, after.0) * parts(1).pow(2) as i64;
     if s >= p {
-        return smaller;
+        return cap;
     }
     let bound = (limits.jump * limits.jump) as u128 * p as u128;
-    capped_quotient(bound, 2 * (p - s) as u64, smaller)
+    capped_quotient(bound, 2 * (p - s) as u64, cap)
 }
 
 /// Sum over the axes of the products of the moves, µm².
@@ -147,24 +154,13 @@ pub fn figures_of(machine: &Machine, blocks: &[Block]) -> Option<Figures> {
 }
 
 /// What holds a junction at a plan's squared speed, (µm/s)², which is at most
-/// its cap. The corner cap is at most that speed where one more does not pass.
-fn held_at(
-    limits: &Limits,
-    before: (&Block, &Numbers),
-    after: (&Block, &Numbers),
-    plan: u64,
-) -> HeldBy {
+/// each of its caps: so the corner cap is that where it is below one more, and a
+/// block cap that is not the feed's is a chord's.
+fn held_at(limits: &Limits, before: Known, after: Known, plan: u64) -> HeldBy {
     let speed = before.1.speed.min(after.1.speed);
-    let unbounded = [before, after].map(|(block, numbers)| {
-        let cap = plan + 1;
-        (block, Numbers { cap, ..*numbers })
-    });
-    let [first, second] = unbounded
-        .each_ref()
-        .map(|(block, numbers)| (*block, numbers));
     if plan == speed * speed {
         HeldBy::Feed
-    } else if plan == junction_cap(limits, first, second) {
+    } else if plan == under_corner(limits, before, after, plan + 1) {
         HeldBy::Corner
     } else if plan == before.1.cap.min(after.1.cap) {
         HeldBy::Chord
