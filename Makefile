@@ -33,11 +33,14 @@ picture:
 	target/bin/planlist < $(PICTURED) | tools/picture $(PICTURED) '$(TITLE)' > docs/plan.svg
 
 # a program of the independent implementation
-REFERENCE = CARGO_TARGET_DIR=target/reference cargo run --quiet --release --offline \
-    --manifest-path tests/reference/Cargo.toml --bin
+REFERENCE = CARGO_TARGET_DIR=$(CURDIR)/target/reference cargo run --quiet --release --offline \
+    --manifest-path $(CURDIR)/tests/reference/Cargo.toml --bin
 
-# make expected: the cases of the programs machine_run and tape_run and the orders for planorders,
-# and what these, planlist and planreplay must write, made again by the independent implementation.
+# make expected: the cases of the programs machine_run and tape_run, the orders for planorders and
+# the tapes for planreport, and what these, planlist and planreplay must write, made again by the
+# independent implementation.
+REPORTED = crates/planreport
+
 expected:
 	$(REFERENCE) machine_expect -- cases > crates/machine_run/stdin
 	$(REFERENCE) machine_expect -- answers < crates/machine_run/stdin > crates/machine_run/stdout
@@ -47,9 +50,16 @@ expected:
 	$(REFERENCE) planreplay_ref < crates/planreplay/stdin > crates/planreplay/stdout
 	$(REFERENCE) maketape -- order-cases > crates/planorders/stdin
 	$(REFERENCE) planorders_ref < crates/planorders/stdin > crates/planorders/stdout
+	@mkdir -p $(REPORTED)/data
+	for name in right-angle what-held to-and-fro; do \
+	    $(REFERENCE) maketape -- $$name > $(REPORTED)/data/$$name.tape || exit 1; done
+	head -c 23 $(REPORTED)/data/right-angle.tape > $(REPORTED)/data/cut.tape
+	printf '%s.tape\n' right-angle what-held cut to-and-fro > $(REPORTED)/args
+	cd $(REPORTED)/data && $(REFERENCE) planreport_ref -- $$(cat ../args) > ../stdout
 
 # make examples: the example tapes, traces, torque steps, texts and orders, made again.
-TAPES = $(addprefix examples/tapes/,right-angle.tape mould-row.tape square-pocket.tape to-and-fro.tape)
+TAPES = $(addprefix examples/tapes/,right-angle.tape mould-row.tape square-pocket.tape \
+    to-and-fro.tape what-held.tape)
 TRACES = examples/traces/shop-traffic.trace
 STEPS = examples/steps/soft-motors.steps
 TEXTS = examples/text/pocket-with-boss.ngc

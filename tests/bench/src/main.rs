@@ -1,5 +1,5 @@
-//! Prints time and instructions of the proved planner, root, reading of a text
-//! and orders beside those of the reference, and what planlist, ngctape and
+//! Prints time and instructions of the proved planner, report, root, reading of a
+//! text and orders beside those of the reference, and what planlist, ngctape and
 //! planorders take. Fails where the two differ.
 
 mod callgrind;
@@ -27,6 +27,9 @@ const WORKS: [(&str, Work); 3] = [
     ("root", Work::Root),
 ];
 const TEXTS: [(&str, Work); 1] = [("text", Work::Text)];
+/// The same tapes planned and reported.
+const PLAN: (&str, Work) = WORKS[1];
+const REPORT: (&str, Work) = ("report", Work::Report);
 /// The same blocks added and ordered.
 const ADD: (&str, Work) = WORKS[0];
 const ORDER: (&str, Work) = ("order", Work::Order);
@@ -50,14 +53,16 @@ fn main() -> ExitCode {
     match arguments.iter().map(String::as_str).collect::<Vec<_>>()[..] {
         [] => table(),
         ["count", work, path, side] => {
-            let works = [&WORKS[..], &TEXTS, &[ORDER]].concat();
+            let works = [&WORKS[..], &TEXTS, &[ORDER, REPORT]].concat();
             let (work, side) = (named(&works, work), named(&SIDES, side));
             let mut ready = Ready::new(work, side, named(paths(work), path), work.counted());
             println!("{}", ready.run());
             ExitCode::SUCCESS
         }
         _ => {
-            eprintln!("bench | bench count planner|tape|root|text|order PATH proved|reference");
+            eprintln!(
+                "bench | bench count planner|tape|root|text|order|report PATH proved|reference"
+            );
             ExitCode::FAILURE
         }
     }
@@ -66,7 +71,7 @@ fn main() -> ExitCode {
 /// The paths that a work is measured on.
 fn paths(work: Work) -> &'static [(&'static str, Path)] {
     match work {
-        Work::Planner | Work::Tape => &PATHS,
+        Work::Planner | Work::Tape | Work::Report => &PATHS,
         Work::Root => &STEPS,
         Work::Text | Work::Order => &PATHS[..1],
     }
@@ -93,8 +98,9 @@ fn table() -> ExitCode {
         list::report_text(),
         order_rows(),
         list::report_orders(),
+        report_rows(),
     ];
-    if agree == [true; 6] {
+    if agree == [true; 7] {
         ExitCode::SUCCESS
     } else {
         ExitCode::FAILURE
@@ -130,6 +136,14 @@ impl Measured {
         }
         proved == reference
     }
+
+    /// Prints by how much it is more than another work on the same blocks.
+    fn print_beyond(&self, name: &str, less: &Measured) {
+        let more = |side: usize| Some(self.counts[side]? - less.counts[side]?);
+        line(name, "instructions", [more(0), more(1)]);
+        let more = |side: usize| Some(self.times[side] - less.times[side]);
+        line("", "ns", [more(0), more(1)]);
+    }
 }
 
 /// Prints the rows of some works; false where the two sides found other numbers.
@@ -155,14 +169,24 @@ fn rows(works: &[(&str, Work)]) -> bool {
 fn order_rows() -> bool {
     let [add, order] = [ADD, ORDER].map(|work| Measured::of(work, PATHS[0]));
     let agree = [add.print("add, mould"), order.print("order, mould")];
-    let more = |side: usize| Some(order.counts[side]? - add.counts[side]?);
-    line("order beyond add", "instructions", [more(0), more(1)]);
-    let more = |side: usize| Some(order.times[side] - add.times[side]);
-    line("", "ns", [more(0), more(1)]);
+    order.print_beyond("order beyond add", &add);
     if order.sums != add.sums {
         eprintln!("order, mould: the exits are not those of the adds");
     }
     agree == [true; 2] && order.sums == add.sums
+}
+
+/// Prints what each block of the longest tape of each path takes in a report, and
+/// by how much that is more than in the tape's plan. False where the two sides
+/// found other numbers.
+fn report_rows() -> bool {
+    let mut agree = true;
+    for path in PATHS {
+        let [plan, report] = [PLAN, REPORT].map(|work| Measured::of(work, path));
+        agree &= report.print(&format!("report, {}", path.0));
+        report.print_beyond("beyond the plan", &plan);
+    }
+    agree
 }
 
 /// One line: both sides' numbers and proved / reference; a dash where there is

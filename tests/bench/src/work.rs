@@ -35,6 +35,8 @@ pub enum Work {
     Planner,
     /// The plan of tapes of 2,048 blocks.
     Tape,
+    /// The figures of such tapes, each in a fresh report.
+    Report,
     /// The root of the sum of each block's squared moves.
     Root,
     /// The records of texts of 2,048 lines, each with a block.
@@ -50,7 +52,7 @@ impl Work {
     pub fn counted(self) -> usize {
         match self {
             Work::Planner | Work::Root | Work::Order => 20_000,
-            Work::Tape | Work::Text => 10 * MOST_BLOCKS,
+            Work::Tape | Work::Report | Work::Text => 10 * MOST_BLOCKS,
         }
     }
 
@@ -61,6 +63,8 @@ impl Work {
             (Work::Planner, Side::Reference) => "feed_reference",
             (Work::Tape, Side::Proved) => "plan_proved",
             (Work::Tape, Side::Reference) => "plan_reference",
+            (Work::Report, Side::Proved) => "report_proved",
+            (Work::Report, Side::Reference) => "report_reference",
             (Work::Root, Side::Proved) => "roots_proved",
             (Work::Root, Side::Reference) => "roots_reference",
             (Work::Text, Side::Proved) => "read_proved",
@@ -77,6 +81,8 @@ pub enum Ready {
     FeedReference(Box<Planner>, Vec<Block>),
     PlanProved(Vec<u8>, usize),
     PlanReference(Machine, Vec<Block>, usize),
+    ReportProved(Vec<u8>, usize),
+    ReportReference(Machine, Vec<Block>, usize),
     RootsProved(Vec<u64>),
     RootsReference(Vec<u64>),
     ReadProved(Vec<u8>, usize),
@@ -89,7 +95,6 @@ impl Ready {
     /// Prepares the work for `count` blocks; those of tapes and texts are rounded
     /// up to whole ones.
     pub fn new(work: Work, side: Side, path: Path, count: usize) -> Ready {
-        let limits = machine_m();
         match (work, side) {
             (Work::Planner, side) => {
                 let mut blocks = path.blocks(PLACES + count);
@@ -99,17 +104,8 @@ impl Ready {
                     Side::Reference => Ready::FeedReference(filled_planner(&blocks), rest),
                 }
             }
-            (Work::Tape, side) => {
-                let blocks = path.blocks(MOST_BLOCKS);
-                let runs = count.div_ceil(MOST_BLOCKS);
-                match side {
-                    Side::Proved => Ready::PlanProved(Tape { limits, blocks }.pack(), runs),
-                    Side::Reference => {
-                        let machine = Machine::of(&limits, NONE_LOADED).expect("machine M passes");
-                        Ready::PlanReference(machine, blocks, runs)
-                    }
-                }
-            }
+            (Work::Tape, side) => Ready::tape(side, path, count.div_ceil(MOST_BLOCKS)),
+            (Work::Report, side) => Ready::report(side, path, count.div_ceil(MOST_BLOCKS)),
             (Work::Root, side) => {
                 let sums = path.blocks(count).iter().map(squares).collect();
                 match side {
@@ -119,6 +115,24 @@ impl Ready {
             }
             (Work::Text, side) => Ready::text(side, path, count.div_ceil(MOST_BLOCKS)),
             (Work::Order, side) => Ready::orders(side, path, count),
+        }
+    }
+
+    /// Prepares so many plans of a tape.
+    fn tape(side: Side, path: Path, runs: usize) -> Ready {
+        let (machine, blocks) = longest(path);
+        match side {
+            Side::Proved => Ready::PlanProved(bytes_of(&machine, blocks), runs),
+            Side::Reference => Ready::PlanReference(machine, blocks, runs),
+        }
+    }
+
+    /// Prepares so many reports of a tape.
+    fn report(side: Side, path: Path, runs: usize) -> Ready {
+        let (machine, blocks) = longest(path);
+        match side {
+            Side::Proved => Ready::ReportProved(bytes_of(&machine, blocks), runs),
+            Side::Reference => Ready::ReportReference(machine, blocks, runs),
         }
     }
 
@@ -160,6 +174,7 @@ impl Ready {
         match self {
             Ready::FeedProved(_, blocks) | Ready::FeedReference(_, blocks) => blocks.len(),
             Ready::PlanProved(_, runs) | Ready::PlanReference(_, _, runs) => runs * MOST_BLOCKS,
+            Ready::ReportProved(_, runs) | Ready::ReportReference(_, _, runs) => runs * MOST_BLOCKS,
             Ready::RootsProved(sums) | Ready::RootsReference(sums) => sums.len(),
             Ready::ReadProved(_, runs) | Ready::ReadReference(_, runs) => runs * MOST_BLOCKS,
             Ready::OrderProved(_, _, feeds) => feeds.len(),
@@ -169,13 +184,18 @@ impl Ready {
 
     /// Runs it and gives the sum of what is found: the squared speeds at the
     /// exits of the blocks taken or every number of each plan, (µm/s)², the
-    /// roots, µm, or the records' words.
+    /// figures of each tape by their places, the roots, µm, or the records'
+    /// words.
     pub fn run(&mut self) -> u64 {
         match self {
             Ready::FeedProved(memory, blocks) => feed_proved(memory, blocks),
             Ready::FeedReference(planner, blocks) => feed_reference(planner, blocks),
             Ready::PlanProved(tape, runs) => plan_proved(tape, *runs),
             Ready::PlanReference(machine, blocks, runs) => plan_reference(machine, blocks, *runs),
+            Ready::ReportProved(tape, runs) => report_proved(tape, *runs),
+            Ready::ReportReference(machine, blocks, runs) => {
+                report_reference(machine, blocks, *runs)
+            }
             Ready::RootsProved(sums) => roots_proved(sums),
             Ready::RootsReference(sums) => roots_reference(sums),
             Ready::ReadProved(text, runs) => read_proved(text, *runs),
@@ -184,6 +204,18 @@ impl Ready {
             Ready::OrderReference(planner, host, events) => order_reference(planner, host, events),
         }
     }
+}
+
+/// Machine M, and the longest tape's blocks of a path.
+fn longest(path: Path) -> (Machine, Vec<Block>) {
+    let machine = Machine::of(&machine_m(), NONE_LOADED).expect("machine M passes");
+    (machine, path.blocks(MOST_BLOCKS))
+}
+
+/// The bytes of a tape.
+fn bytes_of(machine: &Machine, blocks: Vec<Block>) -> Vec<u8> {
+    let limits = machine.limits;
+    Tape { limits, blocks }.pack()
 }
 
 /// The sum of a block's squared moves, µm².
@@ -277,6 +309,48 @@ fn plan_reference(machine: &Machine, blocks: &[Block], runs: usize) -> u64 {
     for _ in 0..runs {
         let plan = quick::plan_of(black_box(machine), blocks);
         sum += black_box(plan).expect("a plan").iter().sum::<u64>();
+    }
+    sum
+}
+
+/// Seven figures, each by its place from 1, so that no two of them can change
+/// places unseen.
+fn weighed(figures: &[u64; FIGURES]) -> u64 {
+    let figures = figures.iter().zip(1..);
+    figures.map(|(figure, place)| figure * place).sum()
+}
+
+/// From the tape's bytes to its figures.
+#[inline(never)]
+fn report_proved(tape: &[u8], runs: usize) -> u64 {
+    let (mut report, mut figures, mut place) = ([0; REPORT], [0; FIGURES], [0]);
+    let mut sum = 0;
+    for _ in 0..runs {
+        unsafe { fullerecru_report_fresh(report.as_mut_ptr()) };
+        let number = unsafe {
+            fullerecru_report_add(
+                report.as_mut_ptr(),
+                tape.as_ptr(),
+                tape.len(),
+                NONE_LOADED.as_ptr(),
+                NONE_LOADED.len(),
+                figures.as_mut_ptr(),
+                place.as_mut_ptr(),
+            )
+        };
+        assert_eq!(number, 0, "a tape that passes");
+        sum += weighed(black_box(&figures));
+    }
+    sum
+}
+
+/// From blocks that are read and checked already to the figures.
+#[inline(never)]
+fn report_reference(machine: &Machine, blocks: &[Block], runs: usize) -> u64 {
+    let mut sum = 0;
+    for _ in 0..runs {
+        let figures = black_box(quick::figures_of(black_box(machine), blocks));
+        sum += weighed(&figures.expect("a plan").numbers());
     }
     sum
 }

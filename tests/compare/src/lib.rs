@@ -5,8 +5,9 @@
 //! all that is lent to be read stay as they were, and on a refusal everything
 //! lent (but for the place of a tape's or a text's fault, which every call
 //! writes). `programs` runs planlist, planreplay and planorders, with a file of
-//! torque steps or without, and ngctape with a file of limits. `words` has the
-//! lists of numbers that stand for limits, blocks and blocks given out,
+//! torque steps or without, ngctape with a file of limits, and planreport with
+//! files of tapes; `devices` has what they can be made to read from. `words` has
+//! the lists of numbers that stand for limits, blocks and blocks given out,
 //! `traces` runs a trace on the reference as the library does, `lines` plans
 //! blocks on both, and `texts` compares the records of a text. `ring` is a
 //! planner's memory by the promise of its calls, and `memories` has memories of
@@ -15,6 +16,7 @@
 //! A run begins with the seed 0, or with the one that the variable SEED says
 //! (`SEED=n make test`), and each test takes the seeds from there on in turn.
 
+pub mod devices;
 pub mod guarded;
 pub mod hosts;
 pub mod library;

@@ -9,6 +9,9 @@ pub const PLAN: usize = 65;
 /// Numbers of a host's memory, and doubles of a point.
 pub const HOST: usize = 4;
 pub const POINT: usize = 3;
+/// Numbers of a report, and figures of a tape.
+pub const REPORT: usize = 8;
+pub const FIGURES: usize = 7;
 
 extern "C" {
     pub fn fullerecru_fresh(
@@ -98,6 +101,25 @@ extern "C" {
         radius: f64,
     ) -> u64;
     pub fn fullerecru_position(host: *const u64, point: *mut f64);
+    pub fn fullerecru_report_fresh(report: *mut u64);
+    pub fn fullerecru_report_add(
+        report: *mut u64,
+        tape: *const u8,
+        count: usize,
+        steps: *const u8,
+        steps_count: usize,
+        figures: *mut u64,
+        place: *mut u64,
+    ) -> u64;
+    pub fn fullerecru_held_by(
+        tape: *const u8,
+        count: usize,
+        steps: *const u8,
+        steps_count: usize,
+        list: *mut u64,
+        junctions: usize,
+        place: *mut u64,
+    ) -> u64;
 }
 
 extern "C" {

@@ -1,4 +1,4 @@
-//! The programs planlist, planreplay, planorders and ngctape.
+//! The programs planlist, planreplay, planorders, ngctape and planreport.
 
 use std::env;
 use std::ffi::OsStr;
@@ -42,6 +42,11 @@ pub fn planorders() -> PathBuf {
 /// ngctape, or what NGCTAPE names.
 pub fn ngctape() -> PathBuf {
     path("NGCTAPE", "ngctape")
+}
+
+/// planreport, or what PLANREPORT names.
+pub fn planreport() -> PathBuf {
+    path("PLANREPORT", "planreport")
 }
 
 /// Starts the program with its input and output; what it complains of is read.

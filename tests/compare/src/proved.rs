@@ -1,8 +1,10 @@
 //! The calls of libfullerecru.a. Each lends copies between guards, and sees
 //! that what is lent to be read stays as it was, and after a refusal every
-//! lent number and byte. The root is lent nothing. `host` has a host's orders.
+//! lent number and byte. The root is lent nothing. `host` has a host's orders,
+//! `reports` what held tapes back.
 
 mod host;
+mod reports;
 
 use std::cell::Cell;
 use std::fmt::Debug;
@@ -16,6 +18,7 @@ use crate::guarded::Guarded;
 use crate::library::*;
 use crate::words::{answer_of, given_of, limit_words, limits_of};
 pub use host::Host;
+pub use reports::{held_by, Report};
 
 /// What the guards beside lent numbers and bytes hold.
 const GUARD: u64 = 0x5eed_0000_dead_5eed;

@@ -4,7 +4,8 @@
 //! it or not. Whatever else is there, and a file that cannot be opened or read,
 //! they tell in one line on standard error, and read and write nothing. What
 //! steps and limits do is not tested here: the files of steps are empty, those
-//! of limits machine M's, or they cannot be had.
+//! of limits machine M's, or they cannot be had. planreport, which reads no
+//! standard input, is in planreport.rs.
 
 use std::ffi::OsStr;
 use std::fs::{self, File, Permissions};

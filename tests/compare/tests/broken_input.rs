@@ -1,20 +1,20 @@
 //! An input that cannot be read to its end is told on standard error, wherever
 //! its reads begin to fail: planlist and ngctape then write nothing, planreplay
 //! and planorders only the lines of the chunks of calls or events that they
-//! have read whole.
+//! have read whole. planreport.rs has files of tapes that break off.
 
-use std::ffi::{c_char, c_int, CStr, OsStr};
-use std::fs::{self, File, OpenOptions};
+use std::ffi::OsStr;
+use std::fs::{self, File};
 use std::io::{self, Read, Write};
 use std::net::{TcpListener, TcpStream};
-use std::os::fd::{AsRawFd, OwnedFd};
-use std::os::unix::fs::OpenOptionsExt;
+use std::os::fd::OwnedFd;
 use std::os::unix::net::UnixStream;
 use std::path::PathBuf;
 use std::process::{Child, Command, Stdio};
 use std::thread;
 use std::time::{Duration, Instant};
 
+use compare::devices::Terminal;
 use compare::programs::*;
 use compare::report;
 use reference::examples::{example, example_text};
@@ -264,52 +264,8 @@ fn reset_connection() -> Line {
 
 /// A terminal whose controlling side is closed is hung up.
 fn terminal() -> Line {
-    let (near, far) = open_terminal().expect("a pseudo-terminal");
-    (Box::new(near), far.into())
-}
-
-extern "C" {
-    fn grantpt(near: c_int) -> c_int;
-    fn unlockpt(near: c_int) -> c_int;
-    fn ptsname_r(near: c_int, name: *mut c_char, room: usize) -> c_int;
-    fn tcgetattr(far: c_int, settings: *mut Settings) -> c_int;
-    fn cfmakeraw(settings: *mut Settings);
-    fn tcsetattr(far: c_int, when: c_int, settings: *const Settings) -> c_int;
-}
-
-/// As much room as C's `struct termios` has, and more.
-type Settings = [u64; 16];
-
-/// Both sides of a new terminal through which every byte passes as it is.
-fn open_terminal() -> io::Result<(File, File)> {
-    // neither side becomes the terminal of this process, and a program that is
-    // started gets neither but as its input
-    const O_NOCTTY: c_int = 0o400;
-    let mut side = OpenOptions::new();
-    side.read(true).write(true).custom_flags(O_NOCTTY);
-    let near = side.open("/dev/ptmx")?;
-    let mut name: [c_char; 64] = [0; 64];
-    let mut settings: Settings = [0; 16];
-    // each call is handed a descriptor that is open, and lists of the length
-    // that it may write
-    unsafe {
-        done(grantpt(near.as_raw_fd()))?;
-        done(unlockpt(near.as_raw_fd()))?;
-        done(ptsname_r(near.as_raw_fd(), name.as_mut_ptr(), name.len()))?;
-        let far = side.open(CStr::from_ptr(name.as_ptr()).to_str().expect("a path"))?;
-        done(tcgetattr(far.as_raw_fd(), &mut settings))?;
-        cfmakeraw(&mut settings);
-        done(tcsetattr(far.as_raw_fd(), 0, &settings))?;
-        Ok((near, far))
-    }
-}
-
-/// What a call of the C library says: 0 where it has done what it was asked.
-fn done(answer: c_int) -> io::Result<()> {
-    match answer {
-        0 => Ok(()),
-        _ => Err(io::Error::last_os_error()),
-    }
+    let terminal = Terminal::open().expect("a pseudo-terminal");
+    (Box::new(terminal.near), terminal.far.into())
 }
 
 /// Breaks the lines of each reading wherever it says.

@@ -7,8 +7,8 @@
 
 use std::collections::BTreeSet;
 
-use compare::library::{HOST, NUMBERS, PLAN, POINT, ROW};
-use compare::proved::{self, Host, Planner};
+use compare::library::{FIGURES, HOST, NUMBERS, PLAN, POINT, REPORT, ROW};
+use compare::proved::{self, Host, Planner, Report};
 use compare::{first_seed, report, seeds, Trying};
 use reference::generate::{block, limits, machine_m, steps, straight_steps};
 use reference::host::Order;
@@ -77,6 +77,25 @@ fn tape_number(bytes: &[u8], steps: &[u8], junctions: usize) -> (u64, u64) {
     }
 }
 
+/// The number and the place of a tape under steps that a report of so many tapes
+/// gives.
+fn report_number(tapes: u64, bytes: &[u8], steps: &[u8]) -> (u64, u64) {
+    let mut own = Report::of_numbers(&[tapes, 1, 2, 3, 4, 5, 6, 7]);
+    match own.add(bytes, steps) {
+        Ok(_) => (0, 0),
+        Err(fault) => (fault.refusal.number(), fault.place),
+    }
+}
+
+/// The number and the place of a tape under steps, of which it is told what held
+/// it in a list of a length.
+fn held_number(bytes: &[u8], steps: &[u8], junctions: usize) -> (u64, u64) {
+    match proved::held_by(bytes, steps, &mut vec![77; junctions]) {
+        Ok(()) => (0, 0),
+        Err(fault) => (fault.refusal.number(), fault.place),
+    }
+}
+
 /// The number and the place of a text whose records go into a list of a length.
 fn text_number(text: &[u8], room: usize) -> (u64, u64) {
     match proved::text_records(text, &mut vec![77; room]) {
@@ -93,14 +112,17 @@ fn trace_numbers(bytes: &[u8], steps: &[u8], numbers: usize, junctions: usize) -
 }
 
 /// The numbers that the functions which take limits give, with steps where they
-/// take these too: fresh, a writer, a reader, a tape and a trace.
-fn limits_numbers(limits: &Limits, steps: &[u8]) -> [u64; 5] {
+/// take these too: fresh, a writer, a reader, a tape planned, reported and told
+/// what held it, and a trace.
+fn limits_numbers(limits: &Limits, steps: &[u8]) -> [u64; 7] {
     let bytes = pack_limits(limits, 0);
     [
         number(Planner::fresh(limits, steps)),
         number(proved::write_limits(limits, &mut [7; LIMITS_BYTES])),
         number(proved::read_limits(&bytes)),
         tape_number(&bytes, steps, 1).0,
+        report_number(0, &bytes, steps).0,
+        held_number(&bytes, steps, 0).0,
         trace_numbers(&bytes, steps, 0, PLAN).0,
     ]
 }
@@ -117,8 +139,8 @@ fn each_limit_is_accepted_at_its_ends_and_refused_beyond() {
                 let (mut limits, steps) = (limits(&mut rng), steps(&mut rng));
                 *field(&mut limits) = value;
                 let numbers = limits_numbers(&limits, &steps);
-                assert_eq!(numbers, [expected; 5], "{limits:?} {steps:?}");
-                count += 5;
+                assert_eq!(numbers, [expected; 7], "{limits:?} {steps:?}");
+                count += 7;
             }
         }
     }
@@ -126,8 +148,9 @@ fn each_limit_is_accepted_at_its_ends_and_refused_beyond() {
 }
 
 /// The number that a block gives to an add, a writer and a trace; and to a
-/// reader and a tape, which have no mark that is too large.
-fn block_numbers(block: &Block, steps: &[u8]) -> ([u64; 3], Option<[u64; 2]>) {
+/// reader and a tape planned, reported and told what held it, which have no mark
+/// that is too large.
+fn block_numbers(block: &Block, steps: &[u8]) -> ([u64; 3], Option<[u64; 4]>) {
     let mut planner = Planner::fresh(&machine_m(), steps).expect("steps that pass");
     let record = pack_record(block);
     let tape = [pack_limits(&machine_m(), 0), record.clone()].concat();
@@ -139,7 +162,14 @@ fn block_numbers(block: &Block, steps: &[u8]) -> ([u64; 3], Option<[u64; 2]>) {
     ];
     let (of_tape, place) = tape_number(&tape, steps, 2);
     assert_eq!(place, u64::from(of_tape != 0), "{block:?}");
-    let on_tape = [number(proved::read_record(&record)), of_tape];
+    let others = [
+        report_number(99, &tape, steps),
+        held_number(&tape, steps, 0),
+    ];
+    assert_eq!(others, [(of_tape, place); 2], "{block:?}");
+    let [reported, held] = others.map(|(number, _)| number);
+    let read = number(proved::read_record(&record));
+    let on_tape = [read, of_tape, reported, held];
     (numbers, (block.mark < 1 << 21).then_some(on_tape))
 }
 
@@ -156,9 +186,9 @@ fn each_field_is_accepted_at_its_ends_and_refused_beyond() {
                 set(&mut block, value);
                 let (numbers, on_tape) = block_numbers(&block, &steps(&mut rng));
                 assert_eq!(numbers, [expected; 3], "{block:?}");
-                let on_tape = on_tape.unwrap_or([expected; 2]);
-                assert_eq!(on_tape, [expected; 2], "{block:?}");
-                count += 5;
+                let on_tape = on_tape.unwrap_or([expected; 4]);
+                assert_eq!(on_tape, [expected; 4], "{block:?}");
+                count += 7;
             }
         }
         let still = Block {
@@ -166,7 +196,7 @@ fn each_field_is_accepted_at_its_ends_and_refused_beyond() {
             ..block(&mut rng)
         };
         let numbers = block_numbers(&still, &steps(&mut rng));
-        assert_eq!(numbers, ([2; 3], Some([2; 2])), "{still:?}");
+        assert_eq!(numbers, ([2; 3], Some([2; 4])), "{still:?}");
     }
     report(count, "fields at their ends");
 }
@@ -199,7 +229,7 @@ fn fields_come_back_as_they_were() {
 }
 
 /// The constants of the header, which is written by hand.
-const HEADER_NUMBERS: [(&str, u64); 33] = [
+const HEADER_NUMBERS: [(&str, u64); 40] = [
     ("NUMBERS", NUMBERS as u64),
     ("PLACES", 64),
     ("LIMITS", 9),
@@ -209,6 +239,9 @@ const HEADER_NUMBERS: [(&str, u64); 33] = [
     ("RECORD", 3),
     ("HOST", HOST as u64),
     ("POINT", POINT as u64),
+    ("REPORT", REPORT as u64),
+    ("FIGURES", FIGURES as u64),
+    ("MOST_TAPES", 100),
     ("LIMITS_BYTES", LIMITS_BYTES as u64),
     ("RECORD_BYTES", RECORD_BYTES as u64),
     ("MOST_BLOCKS", MOST_BLOCKS as u64),
@@ -216,6 +249,10 @@ const HEADER_NUMBERS: [(&str, u64); 33] = [
     ("CALL_BYTES", CALL_BYTES as u64),
     ("ROW", ROW as u64),
     ("PLAN", PLAN as u64),
+    ("HELD_BY_FEED", 0),
+    ("HELD_BY_CORNER", 1),
+    ("HELD_BY_CHORD", 2),
+    ("HELD_BY_REACH", 3),
     ("ACCEPTED", 0),
     ("REFUSED_LIMITS", 1),
     ("REFUSED_STILL", 2),
@@ -264,8 +301,8 @@ fn the_header_has_these_numbers_and_functions() {
     assert_eq!(found, HEADER_NUMBERS);
     let called = functions(include_str!("../src/library.rs"));
     assert_eq!(functions(header), called);
-    assert_eq!(called.len(), 17);
-    report(33 + 17, "constants and functions of the header");
+    assert_eq!(called.len(), 20);
+    report(40 + 20, "constants and functions of the header");
 }
 
 /// The numbers of a call for each of three lengths of what it is lent.
@@ -364,6 +401,48 @@ fn tapes_traces_and_planners_give_their_numbers() {
     assert_eq!(number(Planner::fresh(&machine_m(), few)), 14);
     assert_eq!(number(Planner::fresh(&machine_m(), fit)), 0);
     report(13 + 6 + 3, "numbers of tapes, traces and fresh planners");
+}
+
+/// The order of a report's checks, 10 after 100 tapes, 10, 9, 1, 14, each record
+/// and never 11; and of a list's that is told what held a tape, those of the tape,
+/// then 11 where it has not a number for each inner junction.
+#[test]
+fn reports_give_their_numbers() {
+    let (good, bad) = (pack_limits(&machine_m(), 0), pack_limits(&machine_m(), 1));
+    let record = pack_record(&straight_steps(first_seed(), 1)[0]);
+    let still = [0; RECORD_BYTES];
+    let whole = |limits: &[u8], last: &[u8]| [limits, &record, &record, last].concat();
+    let long = |limits: &[u8]| [limits, &still.repeat(2_049)].concat();
+    // eight steps that pass, and one too few
+    let (fit, few) = (&[100, 90, 80, 70, 60, 50, 40, 30][..], &[100; 7][..]);
+    let cases = [
+        (long(&bad), few, (10, 0)),
+        (long(&bad)[..32_792].to_vec(), few, (1, 0)),
+        (long(&bad)[..32_791].to_vec(), few, (9, 0)),
+        (long(&good)[..32_792].to_vec(), few, (14, 0)),
+        (long(&good)[..32_792].to_vec(), fit, (2, 1)),
+        (whole(&bad, &still[1..]), few, (9, 0)),
+        (whole(&bad, &still), few, (1, 0)),
+        (whole(&good, &still), few, (14, 0)),
+        (whole(&good, &still), &[], (2, 3)),
+        (whole(&good, &record), few, (14, 0)),
+        (whole(&good, &record), fit, (0, 0)),
+        (whole(&good, &record), &[], (0, 0)),
+        (good.clone(), fit, (0, 0)),
+    ];
+    for (tape, steps, expected) in &cases {
+        let inner = (tape.len().saturating_sub(24) / 16).saturating_sub(1);
+        assert_eq!(report_number(0, tape, steps), *expected);
+        assert_eq!(report_number(99, tape, steps), *expected);
+        for tapes in [100, 101, 1 << 32, u64::MAX] {
+            assert_eq!(report_number(tapes, tape, steps), (10, 0), "{tapes}");
+        }
+        assert_eq!(held_number(tape, steps, inner), *expected);
+        let other = if expected.0 == 0 { (11, 0) } else { *expected };
+        assert_eq!(held_number(tape, steps, inner + 1), other);
+        assert_eq!(held_number(tape, steps, inner + 2), other);
+    }
+    report(9 * cases.len(), "numbers of reports");
 }
 
 /// Lines that are accepted behind a line that sets a feed, and such that are not,

@@ -9,11 +9,11 @@
 
 use compare::guarded::{lend_at, Side, SIDES};
 use compare::hosts::{any_host, Kept};
-use compare::library::{HOST, PLAN, ROW};
-use compare::proved::{self, Host, Planner};
+use compare::library::{HOST, PLAN, REPORT, ROW};
+use compare::proved::{self, Host, Planner, Report};
 use compare::texts::{bytes_of, compare_text};
 use compare::traces::{self, rows};
-use compare::words::some_steps;
+use compare::words::{any_word, some_steps};
 use compare::{hex, report, same, seeds, Trying};
 use reference::generate::*;
 use reference::host;
@@ -21,6 +21,7 @@ use reference::line::{Line, LookAhead, PLACES};
 use reference::machine::{Block, Limits, Machine};
 use reference::quick;
 use reference::refusal::Refusal;
+use reference::report as known;
 use reference::rng::Rng;
 use reference::tape::{self, pack_limits, pack_record, Tape, LIMITS_BYTES, MOST_BLOCKS};
 use reference::text::text_blocks;
@@ -181,6 +182,83 @@ fn a_tape_of_each_number_of_records_stays_in_its_bytes_and_list() {
     report(2 * 2_050, "tapes of 0 to 2049 records");
 }
 
+/// Compares a tape under the steps, added to a report of any numbers and told in
+/// a list of `n`.
+fn compare_reported(seed: u64, rng: &mut Rng, side: Side, (tape, steps): (&[u8], &[u8]), n: usize) {
+    let input = || format!("{side:?} {} under {} in {n}", hex(tape), hex(steps));
+    let mut numbers = [(); REPORT].map(|_| any_word(rng));
+    numbers[0] = rng.spread(0, 101);
+    let mut own = Report::of_numbers(&numbers);
+    let mut expected = known::Report::of_numbers(numbers);
+    same(seed, input, own.add(tape, steps), expected.add(tape, steps));
+    same(seed, input, own.numbers(), expected.numbers());
+    let (mut list, mut expected) = (vec![77; n], vec![77; n]);
+    let found = proved::held_by(tape, steps, &mut list);
+    let known = known::held_by(tape, steps, &mut expected);
+    same(seed, input, (found, list), (known, expected));
+}
+
+/// Tapes of each length in bytes up to some records, added to a report, and what
+/// held them in lists of 0 to 12 numbers; then a report made fresh.
+#[test]
+fn a_reported_tape_of_each_length_stays_in_its_bytes_and_lists() {
+    at_both_sides(|seed, rng, side| {
+        let (limits, blocks) = tied_path(rng, 11);
+        let whole = Tape { limits, blocks }.pack();
+        for (length, n) in (0..=whole.len()).flat_map(|length| (0..=12).map(move |n| (length, n))) {
+            let steps = some_steps(rng);
+            compare_reported(seed, rng, side, (&whole[..length], &steps), n);
+        }
+        let mut own = Report::of_numbers(&[(); REPORT].map(|_| any_word(rng)));
+        own.freshen();
+        assert_eq!(own.numbers(), [0; REPORT], "{side:?}");
+    });
+    report(
+        2 * (201 * 13 + 1),
+        "reports of tapes of 0 to 200 bytes in lists of 0 to 12 numbers",
+    );
+}
+
+/// Whole tapes of 0 to 2,048 records, many of them, and what is one too long.
+#[test]
+fn a_reported_tape_of_many_records_stays_in_its_bytes_and_lists() {
+    let counts = || {
+        (0..100)
+            .chain((100..MOST_BLOCKS).step_by(37))
+            .chain([2_047, 2_048])
+    };
+    at_both_sides(|seed, rng, side| {
+        let (limits, blocks) = tied_path(rng, MOST_BLOCKS + 1);
+        let whole = Tape {
+            limits,
+            blocks: blocks.clone(),
+        }
+        .pack();
+        for records in counts() {
+            let steps = steps(rng);
+            let machine = Machine::of(&limits, &steps).expect("limits and steps that pass");
+            let bytes = &whole[..LIMITS_BYTES + 16 * records];
+            let input = || format!("{side:?} {} under {}", hex(bytes), hex(&steps));
+            let known = quick::figures_of(&machine, &blocks[..records]);
+            let found = Report::fresh().add(bytes, &steps);
+            same(seed, input, found.ok(), known);
+            let mut list = vec![77; records.saturating_sub(1)];
+            let answer = proved::held_by(bytes, &steps, &mut list);
+            same(seed, input, answer, Ok(()));
+            let count = |by: u64| list.iter().filter(|held| **held == by).count() as u64;
+            let four = known.map(|known| [known.feed, known.corner, known.chord, known.reach]);
+            same(seed, input, Some([0, 1, 2, 3].map(count)), four);
+        }
+        let many = Report::fresh().add(&whole, &[]);
+        let number = many.map_or_else(|fault| fault.refusal.number(), |_| 0);
+        assert_eq!(number, 10, "{side:?}");
+    });
+    report(
+        2 * (counts().count() + 1),
+        "reports of tapes of 0 to 2049 records",
+    );
+}
+
 /// Compares a trace under the steps in lists of these lengths.
 fn compare_trace(
     seed: u64,
@@ -275,9 +353,9 @@ fn noise(rng: &mut Rng, length: usize) -> Vec<u8> {
     (0..length).map(|_| rng.word() as u8).collect()
 }
 
-/// Steps of 0 to 300 bytes, lent to a fresh planner, with a tape and with a
-/// trace. An empty list begins, at the one side, where the page begins that
-/// cannot be read.
+/// Steps of 0 to 300 bytes, lent to a fresh planner, with a tape to be planned
+/// and to be reported, and with a trace. An empty list begins, at the one side,
+/// where the page begins that cannot be read.
 #[test]
 fn steps_of_each_length_stay_in_their_bytes() {
     at_both_sides(|seed, rng, side| {
@@ -295,10 +373,11 @@ fn steps_of_each_length_stay_in_their_bytes() {
                 let found = proved::plan_tape(&tape, &steps, &mut plan);
                 same(seed, input, (found, plan), (known, expected));
                 compare_trace(seed, side, (&trace, &steps), [rows(&trace), PLAN]);
+                compare_reported(seed, rng, side, (&tape, &steps), 2);
             }
         }
     });
-    report(2 * 301 * 2 * 3, "calls with 0 to 300 bytes of steps");
+    report(2 * 301 * 2 * 5, "calls with 0 to 300 bytes of steps");
 }
 
 /// Orders of every sort with takes between, accepted and refused, from a fresh

@@ -1,16 +1,15 @@
 //! The programs planlist and planreplay write what the reference writes, and
 //! all programs take their files in pieces. ngctape.rs has the rest of ngctape,
-//! planorders.rs that of planorders.
+//! planorders.rs that of planorders, planreport.rs all of planreport.
 
-use std::ffi::{c_char, c_int, c_uint, CString};
 use std::fs::{self, File};
 use std::io::Write;
-use std::os::unix::ffi::OsStrExt;
 use std::path::{Path, PathBuf};
 use std::process::Stdio;
 use std::thread;
 use std::time::Duration;
 
+use compare::devices;
 use compare::programs::*;
 use compare::words::some_steps;
 use compare::{hex, report, same, seeds};
@@ -189,18 +188,10 @@ fn programs_take_input_in_pieces() {
     report(16, "inputs in pieces");
 }
 
-extern "C" {
-    fn mkfifo(path: *const c_char, mode: c_uint) -> c_int;
-}
-
 /// A new pipe with a name.
 fn named_pipe(name: &str) -> PathBuf {
     let path = PathBuf::from(env!("CARGO_TARGET_TMPDIR")).join(name);
-    let _ = fs::remove_file(&path);
-    let text = CString::new(path.as_os_str().as_bytes()).expect("a path");
-    // the call reads the text up to its 0
-    let made = unsafe { mkfifo(text.as_ptr(), 0o600) };
-    assert_eq!(made, 0, "{}", path.display());
+    devices::named_pipe(&path);
     path
 }
 

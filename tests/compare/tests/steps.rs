@@ -1,5 +1,6 @@
 //! The owner's own torque steps, wherever they are taken: by a fresh planner, a
-//! whole tape's plan, a trace and the programs. Worked accelerations and plans;
+//! whole tape's plan, a report, a trace and the programs (planreport.rs has those
+//! of planreport). Worked accelerations and plans;
 //! which lists are accepted, and that a refused one changes nothing; which of
 //! several refusals comes first; that steps are fixed when they are taken; and
 //! the acceleration at each edge of the eight steps.
@@ -13,7 +14,7 @@ use std::hint::black_box;
 
 use compare::library::{fullerecru_fresh, NUMBERS, PLAN, ROW};
 use compare::programs::{planlist, planorders, planreplay, run, run_under, run_with_steps};
-use compare::proved::{self, Planner};
+use compare::proved::{self, Planner, Report};
 use compare::ring::TORQUE;
 use compare::traces::rows;
 use compare::words::limit_words;
@@ -197,6 +198,33 @@ fn tape_number(tape: &[u8], steps: &[u8], n: usize) -> (u64, u64) {
     }
 }
 
+/// The number and the place of a tape under steps in a report, which a refusal
+/// leaves as it is.
+fn report_number(tape: &[u8], steps: &[u8]) -> (u64, u64) {
+    let before = [7, 1, 2, 3, 4, 5, 6, 9];
+    let mut own = Report::of_numbers(&before);
+    match own.add(tape, steps) {
+        Ok(_) => (0, 0),
+        Err(Fault { refusal, place }) => {
+            assert_eq!(own.numbers(), before, "refused by {refusal:?}");
+            (refusal.number(), place)
+        }
+    }
+}
+
+/// The number and the place of a tape under steps of which is told what held it
+/// in a list of `n` numbers, which a refusal leaves as it is.
+fn held_number(tape: &[u8], steps: &[u8], n: usize) -> (u64, u64) {
+    let mut list = vec![77; n];
+    match proved::held_by(tape, steps, &mut list) {
+        Ok(()) => (0, 0),
+        Err(Fault { refusal, place }) => {
+            assert_eq!(list, vec![77; n], "refused by {refusal:?}");
+            (refusal.number(), place)
+        }
+    }
+}
+
 /// The number of a trace run under steps in lists of these lengths, which a
 /// refusal leaves as they are.
 fn trace_number(trace: &[u8], steps: &[u8], [numbers, junctions]: [usize; 2]) -> u64 {
@@ -222,7 +250,7 @@ fn used(rng: &mut Rng) -> (Planner, Line) {
 
 /// A planner whose fresh start is refused keeps its 781 numbers and goes on as
 /// the line of blocks does that knows of no such call. The lists that are lent
-/// with a tape and with a trace hold what they held.
+/// with a tape and with a trace, and a report, hold what they held.
 #[test]
 fn refused_lists_change_nothing() {
     let lists = refused_lists();
@@ -239,11 +267,16 @@ fn refused_lists_change_nothing() {
         }
         let told = tape_number(&tape_of_two(), refused, 3);
         assert_eq!(told, (14, 0), "{refused:?}");
+        let told = [
+            report_number(&tape_of_two(), refused),
+            held_number(&tape_of_two(), refused, 1),
+        ];
+        assert_eq!(told, [(14, 0); 2], "{refused:?}");
         let lengths = [3 * ROW, PLAN];
         let told = trace_number(&trace_of_two(), refused, lengths);
         assert_eq!(told, 14, "{refused:?}");
     }
-    report(3 * lists.len(), "calls with refused lists of steps");
+    report(5 * lists.len(), "calls with refused lists of steps");
 }
 
 #[test]
@@ -414,8 +447,9 @@ fn limits_and_steps(rng: &mut Rng, failing: &BTreeSet<u64>) -> (Limits, Vec<u8>)
 struct FaultyTape {
     bytes: Vec<u8>,
     steps: Vec<u8>,
-    /// Length of the lent list.
+    /// Length of the lent list, and of one for what held the inner junctions.
     junctions: usize,
+    inner: usize,
     /// Number and place that are to be told.
     expected: (u64, u64),
 }
@@ -439,14 +473,16 @@ fn faulty(rng: &mut Rng, failing: &BTreeSet<u64>) -> FaultyTape {
         bytes.truncate(bytes.len() - rng.within(1, RECORD_BYTES as u64 - 1) as usize);
     }
     let wrong = rng.pick(&[0, records, records + 2]);
+    let more = rng.within(1, 2) as usize;
+    let (junctions, inner) = match failing.contains(&11) {
+        true => (wrong, records - 1 + more),
+        false => (records + 1, records - 1),
+    };
     FaultyTape {
         bytes,
         steps,
-        junctions: if failing.contains(&11) {
-            wrong
-        } else {
-            records + 1
-        },
+        junctions,
+        inner,
         expected: match first_of(&TAPE_CHECKS, failing) {
             Some(2) => (faults[0], place),
             told => (told.unwrap_or(0), 0),
@@ -455,7 +491,7 @@ fn faulty(rng: &mut Rng, failing: &BTreeSet<u64>) -> FaultyTape {
 }
 
 /// Each set of faults that a tape can have at once: the first in the order 10, 9,
-/// 1, 14, records, 11 is told.
+/// 1, 14, records, 11 is told; a report has no list, so it never gives 11.
 #[test]
 fn of_a_tapes_faults_the_first_is_told() {
     let mut count = 0;
@@ -467,7 +503,15 @@ fn of_a_tapes_faults_the_first_is_told() {
             let told = tape_number(&tape.bytes, &tape.steps, tape.junctions);
             let input = || format!("{failing:?} {} {}", hex(&tape.steps), hex(&tape.bytes));
             same(seed, input, told, tape.expected);
-            count += 1;
+            let told = held_number(&tape.bytes, &tape.steps, tape.inner);
+            same(seed, input, told, tape.expected);
+            let told = report_number(&tape.bytes, &tape.steps);
+            let expected = match tape.expected {
+                (11, _) => (0, 0),
+                expected => expected,
+            };
+            same(seed, input, told, expected);
+            count += 3;
         }
     }
     report(count, "sets of a tape's faults");

@@ -10,7 +10,13 @@ use crate::tape::Tape;
 use crate::trace::{pack_trace, Call};
 
 /// Names of the example tapes.
-pub const NAMES: [&str; 4] = ["right-angle", "mould-row", "square-pocket", "to-and-fro"];
+pub const NAMES: [&str; 5] = [
+    "right-angle",
+    "mould-row",
+    "square-pocket",
+    "to-and-fro",
+    "what-held",
+];
 
 /// The example tape of a name.
 pub fn example(name: &str) -> Option<Tape> {
@@ -19,6 +25,7 @@ pub fn example(name: &str) -> Option<Tape> {
         "mould-row" => Some(mould_row()),
         "square-pocket" => Some(square_pocket()),
         "to-and-fro" => Some(to_and_fro()),
+        "what-held" => Some(what_held()),
         _ => None,
     }
 }
@@ -83,6 +90,28 @@ pub fn to_and_fro() -> Tape {
     Tape {
         limits: machine_m(),
         blocks: marked(1, &moves, 20_000),
+    }
+}
+
+/// Seven blocks on machine M whose inner junctions are held by the feed, the
+/// corner, three times by the chord of a curve of radius 1 µm, and by the reach
+/// of the last block. Marks 1 to 7.
+pub fn what_held() -> Tape {
+    let moves = [
+        [1_000, 0, 0],
+        [1_000, 0, 0],
+        [0, 1_000, 0],
+        [100, 0, 0],
+        [100, 0, 0],
+        [5, 0, 0],
+        [5, 0, 0],
+    ];
+    let mut blocks = marked(1, &moves, 20_000);
+    blocks[3].radius = 1;
+    blocks[4].radius = 1;
+    Tape {
+        limits: machine_m(),
+        blocks,
     }
 }
 

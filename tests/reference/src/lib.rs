@@ -31,6 +31,7 @@ pub mod pocket;
 pub mod quick;
 pub mod records;
 pub mod refusal;
+pub mod report;
 pub mod rng;
 pub mod search;
 pub mod step_cases;

@@ -1,10 +1,13 @@
-//! The numbers of a block and a junction by division, for the benchmark.
+//! The numbers of a block and a junction by division, for the benchmark, and the
+//! plan and the figures of blocks from these.
 //!
-//! Each function gives what its namesake in `machine` finds by search.
+//! Each function gives what its namesake in `machine` or `report` finds by
+//! search.
 
 use crate::machine::{chord_bound, parts, torque_step};
 use crate::machine::{Block, Limits, Machine, Numbers, Ramp};
 use crate::plan::{highest, Course};
+use crate::report::{Figures, HeldBy};
 
 /// All numbers of a block that passes checks 2 to 6.
 pub fn numbers_of(machine: &Machine, block: &Block) -> Numbers {
@@ -42,16 +45,23 @@ fn block_cap(limits: &Limits, block: &Block, speed: u64) -> u64 {
     capped_quotient(bound, limits.tick * limits.tick, squared)
 }
 
+/// A block with its numbers.
+type Known<'a> = (&'a Block, &'a Numbers);
+
 /// Junction cap, (µm/s)², of two blocks with their numbers.
-pub fn junction_cap(limits: &Limits, before: (&Block, &Numbers), after: (&Block, &Numbers)) -> u64 {
-    let smaller = before.1.cap.min(after.1.cap);
+pub fn junction_cap(limits: &Limits, before: Known, after: Known) -> u64 {
+    under_corner(limits, before, after, before.1.cap.min(after.1.cap))
+}
+
+/// Smaller of `cap` and the corner cap, if there is one, of two blocks, (µm/s)².
+fn under_corner(limits: &Limits, before: Known, after: Known, cap: u64) -> u64 {
     let p = (before.1.length * after.1.length) as i64;
     let s = dot(before.0, after.0) * parts(1).pow(2) as i64;
     if s >= p {
-        return smaller;
+        return cap;
     }
     let bound = (limits.jump * limits.jump) as u128 * p as u128;
-    capped_quotient(bound, 2 * (p - s) as u64, smaller)
+    capped_quotient(bound, 2 * (p - s) as u64, cap)
 }
 
 /// Sum over the axes of the products of the moves, µm².
@@ -99,7 +109,16 @@ fn half_up(change: u64, accel: u64) -> u64 {
 
 /// Plan of checked blocks from rest to rest, (µm/s)².
 pub fn plan_of(machine: &Machine, blocks: &[Block]) -> Option<Vec<u64>> {
-    let numbers: Vec<Numbers> = blocks.iter().map(|b| numbers_of(machine, b)).collect();
+    plan_with(machine, blocks, &all_numbers(machine, blocks))
+}
+
+/// The numbers of each block.
+fn all_numbers(machine: &Machine, blocks: &[Block]) -> Vec<Numbers> {
+    blocks.iter().map(|b| numbers_of(machine, b)).collect()
+}
+
+/// The plan of blocks whose numbers are known.
+fn plan_with(machine: &Machine, blocks: &[Block], numbers: &[Numbers]) -> Option<Vec<u64>> {
     let known = |k: usize| (&blocks[k], &numbers[k]);
     let cap = |k: usize| junction_cap(&machine.limits, known(k - 1), known(k));
     highest(&Course {
@@ -107,4 +126,45 @@ pub fn plan_of(machine: &Machine, blocks: &[Block]) -> Option<Vec<u64>> {
         caps: (1..blocks.len()).map(cap).collect(),
         reaches: numbers.iter().map(|n| n.reach).collect(),
     })
+}
+
+/// The figures of checked blocks planned from rest to rest.
+pub fn figures_of(machine: &Machine, blocks: &[Block]) -> Option<Figures> {
+    let numbers = all_numbers(machine, blocks);
+    let plan = plan_with(machine, blocks, &numbers)?;
+    let mut figures = Figures {
+        blocks: blocks.len() as u64,
+        ..Figures::default()
+    };
+    for (k, number) in numbers.iter().enumerate() {
+        let ramp = ramp_of(number, plan[k], plan[k + 1]);
+        figures.length += number.length;
+        figures.peak = figures.peak.max(ramp.peak);
+    }
+    let known = |k: usize| (&blocks[k], &numbers[k]);
+    for (k, plan) in plan.iter().enumerate().take(blocks.len()).skip(1) {
+        match held_at(&machine.limits, known(k - 1), known(k), *plan) {
+            HeldBy::Feed => figures.feed += 1,
+            HeldBy::Corner => figures.corner += 1,
+            HeldBy::Chord => figures.chord += 1,
+            HeldBy::Reach => figures.reach += 1,
+        }
+    }
+    Some(figures)
+}
+
+/// What holds a junction at a plan's squared speed, (µm/s)², which is at most
+/// each of its caps: so the corner cap is that where it is below one more, and a
+/// block cap that is not the feed's is a chord's.
+fn held_at(limits: &Limits, before: Known, after: Known, plan: u64) -> HeldBy {
+    let speed = before.1.speed.min(after.1.speed);
+    if plan == speed * speed {
+        HeldBy::Feed
+    } else if plan == under_corner(limits, before, after, plan + 1) {
+        HeldBy::Corner
+    } else if plan == before.1.cap.min(after.1.cap) {
+        HeldBy::Chord
+    } else {
+        HeldBy::Reach
+    }
 }

@@ -1,13 +1,16 @@
-//! The stored inputs of the programs `planlist`, `planreplay` and `planorders`,
-//! and the texts that they must write.
+//! The stored inputs of the programs `planlist`, `planreplay`, `planorders` and
+//! `planreport`, and the texts that they must write.
 
 use std::collections::BTreeSet;
+use std::fs;
+use std::path::PathBuf;
 
-use reference::examples::right_angle;
+use reference::examples::{right_angle, to_and_fro, what_held};
 use reference::listing::{planlist, planreplay};
 use reference::order_cases::{order_cases, worked};
 use reference::order_listing::planorders;
 use reference::orders::EVENT_BYTES;
+use reference::report::planreport;
 use reference::tape::LIMITS_BYTES;
 use reference::trace::CALL_BYTES;
 
@@ -17,6 +20,8 @@ const TRACE: &[u8] = include_bytes!("../../../crates/planreplay/stdin");
 const ANSWERS: &str = include_str!("../../../crates/planreplay/stdout");
 const ORDERS: &[u8] = include_bytes!("../../../crates/planorders/stdin");
 const ORDERED: &str = include_str!("../../../crates/planorders/stdout");
+const NAMES: &str = include_str!("../../../crates/planreport/args");
+const REPORT: &str = include_str!("../../../crates/planreport/stdout");
 /// Calls that planreplay runs at a time.
 const CHUNK_CALLS: usize = 300;
 
@@ -74,4 +79,38 @@ fn stored_orders_tell() {
     let last: Vec<&str> = ORDERED.lines().rev().take(4).collect();
     assert!(last[0].starts_with("point ") && last[1].starts_with("plan "));
     assert!(last[2].starts_with("held ") && last[3].starts_with("refused 9 at "));
+}
+
+/// The tapes that planreport is run with: the right-angle pair, one held in each
+/// of the four ways, one that is cut inside its limits, and a line to and fro.
+#[test]
+fn stored_report_is_that_of_the_tapes() {
+    let pair = right_angle().pack();
+    let tapes = [
+        ("right-angle.tape", pair.clone()),
+        ("what-held.tape", what_held().pack()),
+        ("cut.tape", pair[..LIMITS_BYTES - 1].to_vec()),
+        ("to-and-fro.tape", to_and_fro().pack()),
+    ];
+    let folder = PathBuf::from(env!("CARGO_MANIFEST_DIR")).join("../../crates/planreport/data");
+    for (name, tape) in &tapes {
+        assert!(fs::read(folder.join(name)).unwrap() == *tape, "{name}");
+    }
+    assert_eq!(fs::read_dir(folder).unwrap().count(), tapes.len());
+    assert_eq!(
+        NAMES.lines().collect::<Vec<_>>(),
+        tapes.each_ref().map(|tape| tape.0)
+    );
+    let files = tapes
+        .each_ref()
+        .map(|(name, tape)| (name.as_bytes(), &tape[..]));
+    assert_eq!(REPORT.as_bytes(), planreport(&files, &[]));
+}
+
+/// Each of the four counts and a refusal occur in it.
+#[test]
+fn stored_report_tells() {
+    assert_eq!(refusals(REPORT), BTreeSet::from([9]));
+    let all = REPORT.lines().next_back().unwrap();
+    assert_eq!(all, "19 9677 400000000 3 3 3 7 all");
 }

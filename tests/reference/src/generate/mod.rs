@@ -1,5 +1,5 @@
 //! Seeded limits, torque steps, blocks, tapes, call lists, texts and a host's
-//! events for the comparisons.
+//! events for the comparisons, and paths whose caps are equal.
 
 mod blocks;
 mod calls;
@@ -14,6 +14,7 @@ mod steps;
 mod tapes;
 mod text_noise;
 mod texts;
+mod ties;
 
 pub use blocks::{
     block, faulty_block, path, short_steps, straight_steps, tiny_block, BLOCK_FAULTS,
@@ -30,3 +31,4 @@ pub use steps::{faulty_steps, loaded_steps, steps};
 pub use tapes::{faulty_tape, set_last_bit, spoil_record, tape, TAPE_FAULTS};
 pub use text_noise::noisy_text;
 pub use texts::{any_text, faulty_text, late_text, many_text, text, text_with_blocks};
+pub use ties::{tied_path, tied_tape};

@@ -81,17 +81,24 @@ pub fn reach_of(accel: u64, length: u64) -> u64 {
     2 * accel * length / parts(1)
 }
 
-/// Block cap, (µm/s)²: v squared, and with a radius also at most the largest
-/// q with q × T × T ≤ chord bound.
+/// Block cap, (µm/s)²: v squared, and with a radius also at most the chord cap.
 pub fn block_cap(limits: &Limits, block: &Block, speed: u64) -> u64 {
     let squared = speed * speed;
+    match chord_cap(limits, block) {
+        Some(chord) => chord.min(squared as u128) as u64,
+        None => squared,
+    }
+}
+
+/// Chord cap of a checked block, (µm/s)²: the largest q with
+/// q × T × T ≤ chord bound; None without a radius.
+pub fn chord_cap(limits: &Limits, block: &Block) -> Option<u128> {
     if block.radius == 0 {
-        return squared;
+        return None;
     }
     let tick = limits.tick as u128;
     let bound = chord_bound(limits, block.radius);
-    let chord_cap = largest(|q| q * tick * tick <= bound);
-    chord_cap.min(squared as u128) as u64
+    Some(largest(|q| q * tick * tick <= bound))
 }
 
 /// Right side of the chord rule, (8 × e × R − 4 × e × e) × 10^12, where e is
