@@ -5,3 +5,4 @@ pub mod FromBytes
 pub mod WholeTapes
 pub mod LentTexts
 pub mod LentOrders
+pub mod LentReports

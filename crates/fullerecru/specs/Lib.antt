@@ -5,3 +5,4 @@ pub mod Tapes
 pub mod Plans
 pub mod Texts
 pub mod Orders
+pub mod Reports

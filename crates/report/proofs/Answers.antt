@@ -13,6 +13,8 @@ use Rattle.display.specs.declared.Refusal.the-variants as why
 use Rattle.display.proofs.Answers.{above-zero, at-zero, gives, refusal-above, refuses}
 use Rattle.tapeplan.specs.Planned.{wholeFault, wholeRefusal}
 use Rattle.tapeplan.specs.declared.TapePlanned.the-variants.{Planned, Refused}
+use Rattle.tape.proofs.Faults.{neither}
+use Rattle.tapeplan.proofs.Answered.{whole-faultless, whole-passed}
 use Rattle.report.specs.Figures.{figuredBy, figuresOf}
 use Rattle.report.specs.Held.{HeldTape, heldFault, heldList, innerIn}
 use Rattle.report.specs.Report.{Reported, addFault, allOf, mostTapes, reportNumbers, tapesIn, withFigures}
@@ -85,3 +87,11 @@ module _ (report s loaded : List ℕ) where
         answered = figured-given fault (figuresOf s loaded) none same;
         left = stored ∙ ap (λ (f : Figures). reportNumbers (tapesIn report + 1) (withFigures (allOf report) f)) same ∙ sym (at-zero _ report none);
       }
+
+-- A tape that is accepted has no place.
+pub accepted-place : (tapes : ℕ) (s loaded : List ℕ) → addFault tapes s loaded .number ≡ 0 → addFault tapes s loaded ≡ 0 at 0
+unfolding addFault
+accepted-place tapes s loaded e =
+    let both = neither (cond (ltb tapes mostTapes) 0 10) 0 (wholeFault s loaded) e in
+    let passed = whole-passed s loaded (both .1) in
+    at-zero (wholeFault s loaded) (cond (ltb tapes mostTapes) 0 10 at 0) (both .0) ∙ whole-faultless s loaded (passed .0) (passed .1)

@@ -13,9 +13,10 @@ use Rattle.machine.proofs.CapCauses.{beside-least, caps-least, corner-shown}
 use Rattle.machine.proofs.CapLaws.{junction-largest}
 use Rattle.tape.specs.Tape.{recordAt, recordsIn}
 use Rattle.tapeplan.specs.Sheet.{cornerAt, measuredOf}
-use Rattle.report.specs.Counts.{countTo, one}
+use Rattle.report.specs.Counts.{countTo, one, timesIn}
 use Rattle.report.specs.Figures.{figuresOf}
-use Rattle.report.specs.Held.{byChord, byCorner, byFeed, byReach, capsAt, heldBy, heldFrom, heldOf, speedAt}
+use Rattle.report.specs.Held.{byChord, byCorner, byFeed, byReach, capsAt, heldBy, heldFrom, heldList, heldOf, speedAt}
+use Rattle.report.proofs.Counts.{count-listed, count-same}
 
 -- Four tests, of which the last holds where the first does and the two between do not.
 module _ (at feed corner chord : Bool) where
@@ -96,6 +97,21 @@ held-add-up s loaded (suc n) = omega (arith, held-add-up s loaded n, one-of-four
 
 pub four-add-up : (s loaded : List ℕ) → let f = figuresOf s loaded in f .feed + f .corner + f .chord + f .reach ≡ recordsIn s - 1
 four-add-up s loaded = held-add-up s loaded (recordsIn s - 1)
+
+-- THE COUNTS ARE THE LIST'S: how often each number stands in the list of what held each inner junction.
+pub list-counts : (s loaded : List ℕ) → let f = figuresOf s loaded in let list = heldList s loaded in
+    (timesIn 0 list ≡ f .feed) × (timesIn 1 list ≡ f .corner) × (timesIn 2 list ≡ f .chord) × (timesIn 3 list ≡ f .reach)
+list-counts s loaded = (
+  counts 0 byFeed (λ c p. held-is c p .0),
+  counts 1 byCorner (λ c p. held-is c p .1),
+  counts 2 byChord (λ c p. held-is c p .2),
+  counts 3 byReach (λ c p. held-is c p .3),
+)
+  where
+    counts : (what : ℕ) (by : JunctionCaps → ℕ → Bool) → ((c : JunctionCaps) (p : ℕ) → eqb (heldBy c p) what ≡ by c p) → timesIn what (heldList s loaded) ≡ heldOf by s loaded (recordsIn s - 1)
+    counts what by is =
+        count-listed (λ i. heldBy (capsAt s i) (speedAt s loaded i)) what (recordsIn s - 1)
+        ∙ count-same (λ i. eqb (heldBy (capsAt s i) (speedAt s loaded i)) what) (λ i. by (capsAt s i) (speedAt s loaded i)) (recordsIn s - 1) (λ i h. is (capsAt s i) (speedAt s loaded i))
 
 -- From two rows of a tape's sheet.
 module _ (m : Machine) (s : List ℕ) (i : ℕ) (ticks : 0 < m .limits .tick) where

@@ -26,6 +26,7 @@ use Rattle.report.specs.Figures.{figuresOf, lengthAt, noFigures}
 use Rattle.report.specs.Held.{byChord, byCorner, byFeed, byReach, capsAt, heldOf, innerIn, speedAt}
 use Rattle.report.specs.Report.{Job, JobDone, ReportOf, ReportedAll, acceptedOf, addAnswer, addFault, allOf, answersTo, freshReport, greatestOf, mostTapes, reportAfter, reportNumbers, sumOf, tapesIn, totalOf, withFigures}
 use Rattle.report.specs.declared.Figures.{Figures}
+use Rattle.report.proofs.Causes.{four-add-up}
 use Rattle.report.proofs.Counts.{count-below, sum-below}
 
 -- Figures that are the same one by one.
@@ -247,17 +248,16 @@ pub greatest-is : {report : List ℕ} {jobs : List Job} {answers : List (Outcome
 greatest-is {jobs} c =
     subst (λ (a : Figures). Greatest (λ f. f .peak) (acceptedOf 0 jobs) (a .peak)) (sym (report-figures c)) (greatest-of (λ f. f .peak) (acceptedOf 0 jobs))
 
--- Where the inner junctions of every accepted tape are parted among feed, corner, chord and reach, those of all are.
+-- THE FOUR ADD UP in all: the inner junctions of the accepted tapes are parted among feed, corner, chord and reach.
 abbrev pub heldIn : Figures → ℕ
 heldIn f = f .feed + f .corner + f .chord + f .reach
 
-module _ (four-add-up : (s loaded : List ℕ) → wholeRefusal s loaded ≡ 0 → heldIn (figuresOf s loaded) ≡ recordsIn s - 1) where
-  total-adds-up : (jobs : List Job) → heldIn (totalOf (acceptedOf 0 jobs)) ≡ sumOf (λ f. f .blocks - 1) (acceptedOf 0 jobs)
-  unfolding sumOf
-  total-adds-up jobs =
-      accepted-all (λ (list : List Figures). heldIn (totalOf list) ≡ sumOf (λ f. f .blocks - 1) list) refl
-      (λ s loaded list e h. omega (arith, four-add-up s loaded e)) 0 jobs
+total-adds-up : (jobs : List Job) → heldIn (totalOf (acceptedOf 0 jobs)) ≡ sumOf (λ f. f .blocks - 1) (acceptedOf 0 jobs)
+unfolding sumOf
+total-adds-up jobs =
+    accepted-all (λ (list : List Figures). heldIn (totalOf list) ≡ sumOf (λ f. f .blocks - 1) list) refl
+    (λ s loaded list e h. omega (arith, four-add-up s loaded)) 0 jobs
 
-  pub all-add-up : {report : List ℕ} {jobs : List Job} {answers : List (Outcome Fault Figures)} → ReportedAll freshReport jobs answers report
-      → heldIn (allOf report) ≡ sumOf (λ f. f .blocks - 1) (acceptedOf 0 jobs)
-  all-add-up {jobs} c = ap heldIn (report-figures c) ∙ total-adds-up jobs
+pub all-add-up : {report : List ℕ} {jobs : List Job} {answers : List (Outcome Fault Figures)} → ReportedAll freshReport jobs answers report
+    → heldIn (allOf report) ≡ sumOf (λ f. f .blocks - 1) (acceptedOf 0 jobs)
+all-add-up {jobs} c = ap heldIn (report-figures c) ∙ total-adds-up jobs

@@ -6,7 +6,7 @@ use Rattle.planreport.proofs.say_all.Statement.{statement}
 use Rattle.planreport.proofs.say_all.Tie as tie
 
 say-requires : tie.Need-say-requires
-say-requires c κs = behind-within (omega arith) (c .before .before .before .before .put-all .ensures) (c .before .behind .ensures)
+say-requires c κs = behind-within (omega arith) (c .before .before .before .before .put-all .ensures .answered) (c .before .behind .ensures)
 
 pub say-all-spec : {M : Type 1} → statement M
 say-all-spec =

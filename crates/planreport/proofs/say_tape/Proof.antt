@@ -6,7 +6,7 @@ use Rattle.planreport.proofs.say_tape.Statement.{statement}
 use Rattle.planreport.proofs.say_tape.Tie as tie
 
 say-requires : tie.Need-say-requires
-say-requires c κs = behind-within (omega arith) (c .before .before .before .before .put-tape .ensures) (c .before .behind .ensures)
+say-requires c κs = behind-within (omega arith) (c .before .before .before .before .put-tape .ensures .answered) (c .before .behind .ensures)
 
 pub say-tape-spec : {M : Type 1} → statement M
 say-tape-spec =
