@@ -31,9 +31,9 @@ module _ (report tape loaded : List ℕ) where
       }
 
   -- or refused
-  pub report-refused : {report′ place′ : List ℕ} (figures : List ℕ) {n : ℕ} (why : Refusal) (at : ℕ) → Reported report tape loaded (refused (refusalNumber why at at)) report′ → place′ ≡ at ∷ []
+  pub report-refused : {report′ place′ : List ℕ} (figures : List ℕ) {n : ℕ} (why : Refusal) (place : ℕ) → Reported report tape loaded (refused (refusalNumber why at place)) report′ → place′ ≡ place ∷ []
       → n ≡ refusalNumber why → ReportLent report tape loaded n report′ figures figures place′
-  report-refused figures why at r p e =
+  report-refused figures why place r p e =
       let g = refused-is (figuresOf tape loaded) fault (fault .number) (r .answered) in
       record {
         number-is = e ∙ ap (λ (f : Fault). f .number) (g .1);
