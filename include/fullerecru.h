@@ -4,18 +4,19 @@
  * it. The library allocates nothing and keeps nothing between calls: all that it works on is lent
  * by the caller. Of the C library it calls memset and memcpy. It has at most 128 bytes of read-only data.
  * A call needs under 1 kB of stack, fullerecru_replay under 8 kB, fullerecru_plan_tape and
- * fullerecru_text under 34 kB.
+ * fullerecru_text under 34 kB, fullerecru_report_add and fullerecru_held_by under 280 kB.
  *
  * Units: lengths in µm, speeds in µm/s, squared speeds in (µm/s)², accelerations in µm/s², the
  * tick in microseconds. Every quantity is a whole number, but for the doubles of a host's orders, in
  * mm and mm/s.
  *
- * Answers: every function but fullerecru_told, fullerecru_host_fresh and fullerecru_position returns
- * 0 where the call is accepted, else the number of its refusal (see below). Where several refusals
- * hold, the one given is the first in the order that stands at the function. A refused call changes
- * nothing that was lent, but for the place that tells where a tape or a text is at fault
- * (fullerecru_plan_tape, fullerecru_text). Any numbers, doubles and bytes are answered: the ranges
- * below are checked, not required.
+ * Answers: every function but fullerecru_told, fullerecru_host_fresh, fullerecru_report_fresh and
+ * fullerecru_position returns 0 where the call is accepted, else the number of its refusal (see
+ * below). Where several refusals hold, the one given is the first in the order that stands at the
+ * function. A refused call changes nothing that was lent, but for the place that tells where a tape
+ * or a text is at fault (fullerecru_plan_tape, fullerecru_report_add, fullerecru_held_by,
+ * fullerecru_text). Any numbers, doubles and bytes are answered: the ranges below are checked, not
+ * required.
  *
  * What the model leaves open: the acceleration limits hold along each block; at a junction the
  * velocity may step by as much as the corner jump J, and short chords make many such steps. On a
@@ -30,8 +31,8 @@
  * written.
  *
  * Threads: there is no shared state. Calls may run at the same time if they are lent different
- * memory; a planner's memory and a host's are used by one call at a time (several fullerecru_told,
- * fullerecru_shown and fullerecru_position may read them together).
+ * memory; a planner's memory, a host's and a report's are used by one call at a time (several
+ * fullerecru_told, fullerecru_shown and fullerecru_position may read them together).
  */
 #ifndef FULLERECRU_H
 #define FULLERECRU_H
@@ -61,6 +62,10 @@ enum {
     /* Numbers of 64 bits in a host's memory; doubles of a point. */
     FULLERECRU_HOST = 4,
     FULLERECRU_POINT = 3,
+    /* Numbers of 64 bits in a report's memory; figures of a tape; most tapes that a report accepts. */
+    FULLERECRU_REPORT = 8,
+    FULLERECRU_FIGURES = 7,
+    FULLERECRU_MOST_TAPES = 100,
     /* Bytes of the limits and of each record on tape. */
     FULLERECRU_LIMITS_BYTES = 24,
     FULLERECRU_RECORD_BYTES = 16,
@@ -73,6 +78,15 @@ enum {
     FULLERECRU_ROW = 15,
     /* Numbers of the list that a replay's plan is written in: FULLERECRU_PLACES + 1. */
     FULLERECRU_PLAN = 65
+};
+
+/* What held an inner junction of a tape: the feed or an axis, the corner, the chord rule, or the
+ * reach of the blocks around it. */
+enum fullerecru_held {
+    FULLERECRU_HELD_BY_FEED = 0,
+    FULLERECRU_HELD_BY_CORNER = 1,
+    FULLERECRU_HELD_BY_CHORD = 2,
+    FULLERECRU_HELD_BY_REACH = 3
 };
 
 /* The numbers on the display. */
@@ -98,10 +112,10 @@ enum fullerecru_refusal {
      * or one record read or written alone, and for the records of a text, fewer bytes lent than it
      * needs */
     FULLERECRU_REFUSED_RAGGED = 9,
-    /* tape longer than 32,792 bytes; a text's block past 2,048 */
+    /* tape longer than 32,792 bytes; a tape reported after 100 accepted; a text's block past 2,048 */
     FULLERECRU_REFUSED_MANY = 10,
-    /* lent list of speeds not exactly one longer than the blocks; a replay's list not of its
-     * size */
+    /* lent list of speeds not exactly one longer than the blocks; a replay's list, or that of what
+     * held a tape's junctions, not of its size */
     FULLERECRU_REFUSED_LIST = 11,
     /* in a text, any character but a space outside a word, or a word that is not listed or stands
      * on its line already */
@@ -221,6 +235,36 @@ uint64_t fullerecru_write_record(int64_t x, int64_t y, int64_t z, uint64_t feed,
 uint64_t fullerecru_plan_tape(const uint8_t *tape, size_t count, const uint8_t *steps,
                               size_t steps_count, uint64_t *list, size_t junctions,
                               uint64_t place[1]);
+
+/* A report says what held tapes back, over up to 100 accepted tapes: eight numbers that the caller
+ * keeps from call to call and that these functions alone write. The first is how many tapes were
+ * accepted; the others are the figures of all of them, in the order of a tape's: blocks, total length,
+ * µm, greatest peak, a squared speed, (µm/s)², 0 without blocks, and the inner junctions counted by
+ * what held them: feed or axis, corner, chord, reach. Each inner junction counts once, so the four add
+ * up to the inner junctions. From a fresh report on no sum is cut; any numbers are answered, and then
+ * sums are taken modulo 2^64.
+ *
+ * Makes a fresh report: no tape was accepted. The memory need not be initialised. */
+void fullerecru_report_fresh(uint64_t report[FULLERECRU_REPORT]);
+
+/* Plans a tape as fullerecru_plan_tape does and adds it to the report. figures: the tape's own.
+ *
+ * Refuses by 10 after 100 accepted tapes, then by 10, 9, 1, 14, then by the first record at fault (2,
+ * 3, 4, 5). place[0] is written by every call: the place of the record at fault, counted from 1, else
+ * 0. Accepted, it also writes report and figures; a refused tape adds nothing. */
+uint64_t fullerecru_report_add(uint64_t report[FULLERECRU_REPORT], const uint8_t *tape, size_t count,
+                               const uint8_t *steps, size_t steps_count,
+                               uint64_t figures[FULLERECRU_FIGURES], uint64_t place[1]);
+
+/* Tells what held each inner junction of a tape, in order (enum fullerecru_held): a junction whose
+ * planned speed equals its cap is held by the first of feed, corner and chord that equals it, any
+ * other by the reach. Inner junctions are those between two blocks: junctions, the size of list, must
+ * be the number of blocks - 1, or 0 without blocks.
+ *
+ * Refuses as fullerecru_plan_tape does, and writes place as it does. Accepted, it also writes list. */
+uint64_t fullerecru_held_by(const uint8_t *tape, size_t count, const uint8_t *steps,
+                            size_t steps_count, uint64_t *list, size_t junctions,
+                            uint64_t place[1]);
 
 /* Runs a trace, a list of calls, on a planner of its own. The trace is 24 bytes of limits as on
  * tape, then 28 bytes for each call: seven words of 32 bits, most significant byte first: kind (0

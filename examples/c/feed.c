@@ -1,8 +1,8 @@
 /* Feeds a planner as a control does: holds a few blocks ahead, takes the first one when it needs
  * it, and hands its ramp to the servo loop, here one line of print. Then writes a tape of two
- * blocks, reads it back and plans it, replays a trace of four calls with motors that have torque
- * steps of their own, makes a tape of a program in RS-274 text, and carries out the orders of a host
- * in doubles. Every function of the header is called.
+ * blocks, reads it back and plans it, reports what held that tape and another back, replays a trace of
+ * four calls with motors that have torque steps of their own, makes a tape of a program in RS-274 text,
+ * and carries out the orders of a host in doubles. Every function of the header is called.
  *
  *     cc -std=c99 -Iinclude examples/c/feed.c target/staticlib/libfullerecru.a -o target/feed
  */
@@ -166,6 +166,55 @@ static void run_tape(void)
     plan_tape(tape, count);
 }
 
+/* Writes a tape of the machine's limits and the row. Returns how many bytes it has, or 0 where one of
+ * its parts is refused. */
+static size_t write_row(uint8_t tape[FULLERECRU_MOST_TAPE])
+{
+    size_t at = FULLERECRU_LIMITS_BYTES;
+    uint64_t refused = fullerecru_write_limits(MACHINE, tape, at);
+    for (size_t k = 0; k < BLOCKS; k++) {
+        refused |= fullerecru_write_record(ROW[k][0], ROW[k][1], ROW[k][2], FEED,
+                                           (uint64_t)ROW[k][3], k + 1, tape + at,
+                                           FULLERECRU_RECORD_BYTES);
+        at += FULLERECRU_RECORD_BYTES;
+    }
+    return refused == FULLERECRU_ACCEPTED ? at : 0;
+}
+
+/* Adds a tape to a report and prints its figures, or the refusal. */
+static void report_tape(uint64_t report[FULLERECRU_REPORT], const uint8_t *tape, size_t count)
+{
+    uint64_t figures[FULLERECRU_FIGURES], place[1];
+    uint64_t refused =
+        fullerecru_report_add(report, tape, count, FULLERECRU_BUILT_IN, figures, place);
+    if (refused != FULLERECRU_ACCEPTED) {
+        printf("tape refused by %" PRIu64 " at %" PRIu64 "\n", refused, place[0]);
+        return;
+    }
+    print_list("figures", figures, FULLERECRU_FIGURES);
+}
+
+/* Reports on the tape of the row, with what held each of its inner junctions, on the pair's, and on
+ * the pair's with a block that does not move, which is refused and adds nothing. */
+static void run_report(void)
+{
+    uint8_t tape[FULLERECRU_MOST_TAPE];
+    uint64_t report[FULLERECRU_REPORT], held[FULLERECRU_MOST_BLOCKS], place[1];
+    fullerecru_report_fresh(report);
+    size_t count = write_row(tape);
+    report_tape(report, tape, count);
+    if (fullerecru_held_by(tape, count, FULLERECRU_BUILT_IN, held, BLOCKS - 1, place) ==
+        FULLERECRU_ACCEPTED) {
+        print_list("held by", held, BLOCKS - 1);
+    }
+    count = write_pair(tape);
+    report_tape(report, tape, count);
+    memset(tape + count - FULLERECRU_RECORD_BYTES, 0, FULLERECRU_RECORD_BYTES);
+    report_tape(report, tape, count);
+    printf("%" PRIu64 " tapes, ", report[0]);
+    print_list("figures", report + 1, FULLERECRU_FIGURES);
+}
+
 /* The calls of a trace, each of seven words: kind (0 takes, 1 adds), moves X, Y, Z, feed, radius,
  * mark. A take too early, the pair's two adds, and a take. */
 enum { CALLS = 4, WORDS = FULLERECRU_CALL_BYTES / 4 };
@@ -272,6 +321,7 @@ int main(void)
 {
     run_row();
     run_tape();
+    run_report();
     run_trace();
     run_text();
     run_orders();

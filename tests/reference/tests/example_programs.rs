@@ -6,6 +6,7 @@ use reference::host::Host;
 use reference::line::{Line, LookAhead};
 use reference::machine::{Block, Given, Limits, Ramp};
 use reference::orders::Event;
+use reference::report::{held_by, Report};
 use reference::tape::{plan_tape, read_limits, read_record, LIMITS_BYTES, RECORD_BYTES};
 use reference::text::{text_blocks, text_tape};
 
@@ -62,20 +63,25 @@ fn held(line: &Line) -> String {
     format!("held {}, {}", line.told(), list("plan", &line.profile()))
 }
 
+/// The blocks of feed.c's row.
+fn row_blocks() -> Vec<Block> {
+    let block = |([x, y, z, radius], mark): ([i64; 4], u64)| Block {
+        moves: [x, y, z],
+        feed: 20_000,
+        radius: radius as u64,
+        mark,
+    };
+    ROW.into_iter().zip(1..).map(block).collect()
+}
+
 /// feed.c's row, block by block, with a block that does not move.
 fn row_text() -> String {
     let mut text = String::new();
     let mut line = Line::fresh(&machine_m(), &[]).unwrap();
-    for (k, [x, y, z, radius]) in ROW.into_iter().enumerate() {
+    for block in row_blocks() {
         if line.told() == AHEAD {
             text += &taken(&mut line);
         }
-        let block = Block {
-            moves: [x, y, z],
-            feed: 20_000,
-            radius: radius as u64,
-            mark: k as u64 + 1,
-        };
         line.add(&block).unwrap();
     }
     text += &held(&line);
@@ -127,6 +133,41 @@ fn tape_text() -> String {
     let fault = plan_tape(&tape, &[], &mut [0; 3]).unwrap_err();
     let (number, place) = (fault.refusal.number(), fault.place);
     text + &format!("tape refused by {number} at {place}\n")
+}
+
+/// feed.c's row as a tape.
+fn row_tape() -> Vec<u8> {
+    let mut tape = right_angle();
+    tape.blocks = row_blocks();
+    tape.pack()
+}
+
+/// A tape added to a report, as feed.c prints it.
+fn reported(report: &mut Report, tape: &[u8]) -> String {
+    match report.add(tape, &[]) {
+        Ok(figures) => list("figures", &figures.numbers()),
+        Err(fault) => format!(
+            "tape refused by {} at {}\n",
+            fault.refusal.number(),
+            fault.place
+        ),
+    }
+}
+
+/// The report over the row, the pair, and the pair with a block that does not move.
+fn report_text() -> String {
+    let mut report = Report::fresh();
+    let row = row_tape();
+    let mut text = reported(&mut report, &row);
+    let mut held = [0; ROW.len() - 1];
+    held_by(&row, &[], &mut held).unwrap();
+    text += &list("held by", &held);
+    let mut pair = right_angle().pack();
+    text += &reported(&mut report, &pair);
+    pair[LIMITS_BYTES + RECORD_BYTES..].fill(0);
+    text += &reported(&mut report, &pair);
+    let numbers = report.numbers();
+    text + &format!("{} tapes, ", numbers[0]) + &list("figures", &numbers[1..])
 }
 
 /// feed.c's text as a tape of the same machine, and its text that is refused.
@@ -214,7 +255,12 @@ fn pair_text() -> String {
 fn c_example_prints_these_numbers() {
     assert_eq!(
         FEED_TEXT,
-        row_text() + &tape_text() + &trace_text() + &text_text() + &orders_text()
+        row_text()
+            + &tape_text()
+            + &report_text()
+            + &trace_text()
+            + &text_text()
+            + &orders_text()
     );
 }
 
