@@ -13,7 +13,7 @@ use Rattle.arguments.specs.declared.Form.the-variants.{Steps, Name, Name
 use Rattle.arguments.specs.declared.Needer.the-variants.{Option, Program}
 use Rattle.arguments.specs.declared.Seen.{Seen}
 use Rattle.arguments.specs.declared.Seen.the-variants.{File, Named}
-use Rattle.arguments.specs.Words.{Word, help, steps, plain, other, helpWord, stepsWord, dashed, Known, wordOf, allPlain, askedFrom, namedFrom, askedIn, askedOf, askedAfter, Begins, Follows, Ends, AskedBefore}
+use Rattle.arguments.specs.Words.{Word, help, steps, plain, other, helpWord, stepsWord, dashed, Known, wordOf, allPlain, askedFrom, namedFrom, askedIn, askedAfter, Begins, Follows, Ends, AskedBefore}
 
 -- The first byte says whether a word begins as the options do.
 pub dashed-empty : (word : List ℕ) → length word ≡ 0 → false ≡ dashed word

@@ -3,7 +3,7 @@ use mathlib.Core.List.{List, _∷_, []}
 use mathlib.Core.Path.{_≡_}
 use Prim.Native.Nat.{ℕ}
 use lib.ListN.{length}
-use Rattle.display.specs.Display.{Fault, byNumber}
+use Rattle.display.specs.Display.{byNumber}
 use Rattle.report.specs.Figures.{figureNumbers, figuresOf}
 use Rattle.report.specs.Held.{heldFault, heldList}
 use Rattle.report.specs.Report.{addFault, reportAfter, tapesIn}

@@ -1,7 +1,7 @@
 -- The junction cap is the least of the junction's three caps, and a corner as a number beside the block caps tells the corner cap wherever it can
 -- hold a speed. From the laws of the chord rule.
 use mathlib.Core.Path.{_≡_, refl, sym, ap, _∙_}
-use mathlib.Core.Bool.{Bool, true, false, cond}
+use mathlib.Core.Bool.{cond}
 use Prim.Native.Nat.{ℕ, zero, suc, _+_, _≤_, _<_, min}
 use native.Mathlib.Omega.{arith}
 use borrow.Author.Tests.{ne-eqb}

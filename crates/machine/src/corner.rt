@@ -63,8 +63,8 @@ pub fn corner_beside(jump: u64, a: Block, na: Numbers, b: Block, nb: Numbers) ->
     requires { ⌜ Joinable jump a na b nb × (nb .cap < 2 ^ 62) ⌝ }
     ensures { λ r. ⌜ r ≡ cornerBeside jump a na b nb ⌝ }
 {
-    let cap = smaller(na.cap, nb.cap);
-    under_corner(cap + 1, jump, a, na.length, b, nb.length)
+    let least = smaller(na.cap, nb.cap);
+    under_corner(least + 1, jump, a, na.length, b, nb.length)
 }
 
 // The junction cap between two blocks with these numbers, (µm/s)², from the corner beside their block caps.

@@ -1,19 +1,20 @@
 -- The figures of an accepted tape, and what held its junctions, from its sheet and its plan. From the laws of rows, of counts, of causes and of an
 -- accepted tape.
-use mathlib.Core.Path.{_≡_, refl, sym, ap, _∙_}
+use mathlib.Core.Path.{_≡_, sym, ap, _∙_}
 use mathlib.Core.Bool.{Bool}
 use mathlib.Core.List.{List}
-use Prim.Native.Nat.{ℕ, zero, suc, _+_, _-_, _^_, _≤_, _<_, zero-le}
+use Prim.Native.Nat.{ℕ, suc, _-_, _^_, _≤_, _<_, zero-le}
 use native.Mathlib.Decide.{decLt}
 use native.Mathlib.Omega.{arith}
 use lib.Dec.{eqb}
 use lib.ListN.{length}
-use Rattle.profile.specs.Line.{numberAt}
+use Rattle.profile.specs.Line.{capAt, numberAt}
 use Rattle.profile.proofs.Highest.{plan-lawful}
-use Rattle.machine.specs.Caps.{JunctionCaps}
-use Rattle.machine.specs.Numbers.{lengthOf, numbersOf, peakOf, rampOf}
+use Rattle.machine.specs.Caps.{JunctionCaps, leastCap}
+use Rattle.machine.specs.Numbers.{numbersOf, peakOf, rampOf}
 use Rattle.machine.specs.declared.Machine.{Machine}
 use Rattle.machine.proofs.Bounds.{limits-in, short}
+use Rattle.machine.proofs.CapCauses.{caps-least}
 use Rattle.machine.proofs.Spans.{spans-length}
 use Rattle.tape.specs.Answers.{mostBlocks, tapeRefusal}
 use Rattle.tape.specs.Tape.{recordAt, recordsIn, tapeBlocks, tapeLimits}
@@ -27,10 +28,12 @@ use Rattle.tapeplan.specs.declared.TapePlanned.{TapePlanned}
 use Rattle.tapeplan.specs.declared.TapePlanned.the-variants.{Planned}
 use Rattle.tapeplan.proofs.Answered.{whole-passed}
 use Rattle.tapeplan.proofs.Plans.{accepted-ramps, accepted-records}
+use Rattle.tapeplan.proofs.Surveys.{cap-next}
 use Rattle.tapeplan.proofs.Wholes.{plan-front}
-use Rattle.report.specs.Counts.{countTo, greatestTo, listFrom, sumTo}
-use Rattle.report.specs.Figures.{Countable, figuresOf, lengthAt, peakAt, rowFigures, rowHeld, rowLength, rowPeak, rowsHeld}
-use Rattle.report.specs.Held.{byChord, byCorner, byFeed, byReach, capsAt, heldBy, heldFrom, heldList, heldOf, speedAt}
+use Rattle.report.specs.Counts.{listFrom}
+use Rattle.report.specs.Figures.{figuresOf, lengthAt, peakAt}
+use Rattle.report.specs.Rows.{Countable, heldFrom, rowFigures, rowHeld, rowLength, rowPeak, rowsHeld}
+use Rattle.report.specs.Held.{byChord, byCorner, byFeed, byReach, capsAt, heldBy, heldList, heldOf, speedAt}
 use Rattle.report.proofs.Causes.{held-is, held-rows}
 use Rattle.report.proofs.Counts.{count-same, greatest-same, list-same, sum-same}
 
@@ -39,6 +42,11 @@ tape-ticks : (s : List ℕ) → tapeRefusal s ≡ 0 → 0 < tapeLimits s .tick
 tape-ticks s own =
     let limits = limits-faultless s (head-passed s (tape-passed s own .0) .limits) .1 in
     omega (arith, limits-in (tapeLimits s) limits .tick-in .0)
+
+-- The least of the three caps of an inner junction is the plan's cap there.
+pub caps-are : (s loaded : List ℕ) (i : ℕ) → wholeRefusal s loaded ≡ 0 → suc i < recordsIn s → leastCap (capsAt s i) ≡ capAt (tapeSpans s loaded) (suc i)
+caps-are s loaded i passed h =
+    caps-least (tapeLimits s) (recordAt s i) (recordAt s (suc i)) (tape-ticks s (whole-passed s loaded passed .0)) ∙ cap-next (tapeMachine s loaded) s i h
 
 module _ (s loaded sheet plan : List ℕ) (passed : wholeRefusal s loaded ≡ 0)
     (rows : (k : ℕ) → k < recordsIn s → measuredAt sheet k ≡ measuredOf (tapeMachine s loaded) s k)

@@ -1,13 +1,13 @@
 -- What a tape is answered, and what a report and a lent list hold then, by the answer. From the laws of the numbers on the display.
-use mathlib.Core.Path.{_≡_, refl, sym, ap, _∙_}
+use mathlib.Core.Path.{_≡_, sym, ap, _∙_}
 use mathlib.Core.Bool.{Bool, cond}
 use mathlib.Core.List.{List}
 use Prim.Native.Nat.{ℕ, _+_, _≤_, _<_}
 use native.Mathlib.Omega.{arith}
 use borrow.Author.Tests.{eq-eqb, ne-eqb, lt-ltb, le-ltb}
-use lib.Dec.{eqb, ltb, lit<}
+use lib.Dec.{eqb, ltb}
 use lib.ListN.{length}
-use Rattle.display.specs.Display.{Fault, Outcome, byNumber, given, refused, refusalNumber, _at_}
+use Rattle.display.specs.Display.{Fault, given, refused, refusalNumber, _at_}
 use Rattle.display.specs.declared.Refusal.{Refusal}
 use Rattle.display.specs.declared.Refusal.the-variants as why
 use Rattle.display.proofs.Answers.{above-zero, at-zero, gives, refusal-above, refuses}

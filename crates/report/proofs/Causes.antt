@@ -2,12 +2,12 @@
 use mathlib.Core.Path.{_≡_, refl, sym, ap, _∙_}
 use mathlib.Core.Bool.{Bool, true, false, not, _&&_, cond}
 use mathlib.Core.List.{List}
-use Prim.Native.Nat.{ℕ, zero, suc, _+_, _-_, _≤_, _<_, min}
+use Prim.Native.Nat.{ℕ, zero, suc, _+_, _-_, _<_, min}
 use native.Mathlib.Omega.{arith}
-use borrow.Author.Tests.{eqb-true, eqb-false, eq-eqb, ne-eqb}
+use borrow.Author.Tests.{eqb-true, eqb-false, eq-eqb}
 use lib.Dec.{eqb}
 use Rattle.machine.specs.Caps.{JunctionCaps, capIs, capsBetween, leastCap}
-use Rattle.machine.specs.Numbers.{OpenCap, none, upTo, blockCap, cornerCap, junctionCap, numbersOf, underCap}
+use Rattle.machine.specs.Numbers.{OpenCap, none, upTo, numbersOf, underCap}
 use Rattle.machine.specs.declared.Machine.{Machine}
 use Rattle.machine.proofs.CapCauses.{beside-least, caps-least, corner-shown}
 use Rattle.machine.proofs.CapLaws.{junction-largest}
@@ -15,7 +15,8 @@ use Rattle.tape.specs.Tape.{recordAt, recordsIn}
 use Rattle.tapeplan.specs.Sheet.{cornerAt, measuredOf}
 use Rattle.report.specs.Counts.{countTo, one, timesIn}
 use Rattle.report.specs.Figures.{figuresOf}
-use Rattle.report.specs.Held.{byChord, byCorner, byFeed, byReach, capsAt, heldBy, heldFrom, heldList, heldOf, speedAt}
+use Rattle.report.specs.Held.{byChord, byCorner, byFeed, byReach, capsAt, heldBy, heldList, heldOf, speedAt}
+use Rattle.report.specs.Rows.{heldFrom}
 use Rattle.report.proofs.Counts.{count-listed, count-same}
 
 -- Four tests, of which the last holds where the first does and the two between do not.

@@ -1,8 +1,7 @@
 -- The figures of a sheet, row by row, and the list of what held its junctions. From the laws of counts and of copies.
 use mathlib.Core.Path.{_≡_, refl, sym, ap, subst, _∙_}
-use mathlib.Core.Bool.{Bool}
 use mathlib.Core.List.{List, _++_, append-nil}
-use Prim.Native.Nat.{ℕ, zero, suc, _+_, _-_, _*_, _^_, _≤_, _<_, max}
+use Prim.Native.Nat.{ℕ, zero, suc, _+_, _-_, _^_, _≤_, _<_}
 use native.Mathlib.Nat.{zero-add, not-suc-le-zero, le-of-suc-le-suc, mul-le-mul-right}
 use native.Mathlib.Numerals.{add-one}
 use native.Mathlib.Omega.{arith}
@@ -13,8 +12,8 @@ use Rattle.tape.specs.Answers.{mostBlocks}
 use Rattle.tapeplan.specs.Sheet.{measuredAt, over}
 use Rattle.tapeplan.proofs.Copies.{Copying, copy-next}
 use Rattle.report.specs.Counts.{countTo, greatestTo, listFrom, one, sumTo}
-use Rattle.report.specs.Figures.{Countable, blockFigures, heldFigures, noFigures, rowFigures, rowHeld, rowLength, rowPeak, rowsHeld}
-use Rattle.report.specs.Held.{heldFrom}
+use Rattle.report.specs.Figures.{noFigures}
+use Rattle.report.specs.Rows.{Countable, blockFigures, heldFigures, heldFrom, rowFigures, rowHeld, rowLength, rowPeak, rowsHeld}
 use Rattle.report.specs.declared.Figures.{Figures}
 use Rattle.report.proofs.Counts.{count-below, sum-below}
 

@@ -1,19 +1,14 @@
 -- The figures of a tape: its blocks, their total length, µm, the greatest peak, (µm/s)², and its inner junctions by what held them.
-use mathlib.Core.Bool.{Bool}
 use mathlib.Core.List.{List, _∷_, []}
-use Prim.Native.Nat.{ℕ, suc, _-_, _+_, _≤_, _<_, _^_, max}
-use lib.Dec.{eqb}
+use Prim.Native.Nat.{ℕ, suc, _-_}
 use lib.ListN.{length}
 use Rattle.display.specs.Display.{Fault, Outcome, byNumber, given, refused, refusalNumber, _at_}
 use Rattle.profile.specs.Line.{numberAt}
-use Rattle.machine.specs.Numbers.{lengthOf, numbersOf, peakOf, rampOf}
-use Rattle.machine.specs.declared.Numbers.{Numbers}
-use Rattle.tape.specs.Answers.{mostBlocks}
+use Rattle.machine.specs.Numbers.{lengthOf, numbersOf, rampOf}
 use Rattle.tape.specs.Tape.{recordAt, recordsIn}
 use Rattle.tapeplan.specs.Planned.{tapeMachine, tapePlan, wholeFault}
-use Rattle.tapeplan.specs.Sheet.{measuredAt, rowsIn}
-use Rattle.report.specs.Counts.{countTo, sumTo, greatestTo, one}
-use Rattle.report.specs.Held.{byFeed, byCorner, byChord, byReach, heldOf, heldFrom}
+use Rattle.report.specs.Counts.{sumTo, greatestTo}
+use Rattle.report.specs.Held.{byFeed, byCorner, byChord, byReach, heldOf}
 use Rattle.report.specs.declared.Figures.{Figures}
 use Rattle.report.specs.declared.Figured.{Figured}
 use Rattle.report.specs.declared.Figured.the-variants as figured
@@ -60,62 +55,3 @@ figureNumbers f = f .blocks ∷ f .length ∷ f .peak ∷ f .feed ∷ f .corner 
 -- without a block
 abbrev pub noFigures : Figures
 noFigures = record { blocks = 0; length = 0; peak = 0; feed = 0; corner = 0; chord = 0; reach = 0 }
-
--- figures with one block more between two squared speeds, and with one inner junction more by what held it
-abbrev pub blockFigures : Figures → Numbers → (entry exit : ℕ) → Figures
-blockFigures f n entry exit =
-    record {
-      blocks = f .blocks + 1;
-      length = f .length + n .length;
-      peak = max (f .peak) (peakOf (n .cap) (n .reach) entry exit);
-      feed = f .feed;
-      corner = f .corner;
-      chord = f .chord;
-      reach = f .reach;
-    }
-
-abbrev pub heldFigures : Figures → (held : ℕ) → Figures
-heldFigures f held =
-    record {
-      blocks = f .blocks;
-      length = f .length;
-      peak = f .peak;
-      feed = f .feed + one (eqb held 0);
-      corner = f .corner + one (eqb held 1);
-      chord = f .chord + one (eqb held 2);
-      reach = f .reach + one (eqb held 3);
-    }
-
--- The same of the first k rows of a sheet and a list of speeds.
-abbrev pub rowLength : (sheet : List ℕ) (k : ℕ) → ℕ
-rowLength sheet k = measuredAt sheet k .numbers .length
-
-abbrev pub rowPeak : (sheet plan : List ℕ) (k : ℕ) → ℕ
-rowPeak sheet plan k = peakOf (measuredAt sheet k .numbers .cap) (measuredAt sheet k .numbers .reach) (numberAt plan k) (numberAt plan (suc k))
-
-abbrev pub rowHeld : (sheet plan : List ℕ) (i : ℕ) → ℕ
-rowHeld sheet plan i = heldFrom (measuredAt sheet i) (measuredAt sheet (suc i)) (numberAt plan (suc i))
-
-abbrev pub rowsHeld : (sheet plan : List ℕ) (what count : ℕ) → ℕ
-rowsHeld sheet plan what count = countTo (λ i. eqb (rowHeld sheet plan i) what) count
-
-unfoldable pub rowFigures : (sheet plan : List ℕ) (k : ℕ) → Figures
-rowFigures sheet plan k =
-    record {
-      blocks = k;
-      length = sumTo (rowLength sheet) k;
-      peak = greatestTo (rowPeak sheet plan) k;
-      feed = rowsHeld sheet plan 0 (k - 1);
-      corner = rowsHeld sheet plan 1 (k - 1);
-      chord = rowsHeld sheet plan 2 (k - 1);
-      reach = rowsHeld sheet plan 3 (k - 1);
-    }
-
--- a sheet and a list of speeds that have n rows, whose numbers can be added in 64 bits
-pub record Countable (sheet plan : List ℕ) (n : ℕ) : Type 0 where
-  pub few : n ≤ mostBlocks
-  pub rows : n ≤ rowsIn sheet
-  pub junctions : n < length plan
-  pub lengths : (k : ℕ) → k < n → rowLength sheet k < 2 ^ 30
-  pub reaches : (k : ℕ) → k < n → measuredAt sheet k .numbers .reach < 2 ^ 62
-  pub speeds : (k : ℕ) → k ≤ n → numberAt plan k < 2 ^ 62

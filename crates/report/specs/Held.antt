@@ -3,7 +3,7 @@
 use mathlib.Core.Path.{_≡_}
 use mathlib.Core.Bool.{Bool, not, _&&_, cond}
 use mathlib.Core.List.{List}
-use Prim.Native.Nat.{ℕ, suc, _-_, min}
+use Prim.Native.Nat.{ℕ, suc, _-_}
 use lib.Dec.{eqb}
 use lib.ListN.{length}
 use Rattle.display.specs.Display.{Fault, byNumber, _at_, _else_}
@@ -11,7 +11,6 @@ use Rattle.profile.specs.Line.{numberAt}
 use Rattle.machine.specs.Caps.{JunctionCaps, capIs, capsBetween, leastCap}
 use Rattle.tape.specs.Tape.{recordAt, recordsIn, tapeLimits}
 use Rattle.tapeplan.specs.Planned.{plannedMeans, tapePlan, wholeFault}
-use Rattle.tapeplan.specs.declared.Measured.{Measured}
 use Rattle.tapeplan.specs.declared.TapePlanned.{TapePlanned}
 use Rattle.report.specs.Counts.{countTo, listFrom}
 
@@ -62,11 +61,3 @@ heldFault s loaded lent = wholeFault s loaded else (cond (eqb lent (innerIn s)) 
 pub record HeldTape (s loaded before after : List ℕ) (r : TapePlanned) : Type 0 where
   pub fault : plannedMeans r ≡ heldFault s loaded (length before)
   pub list : after ≡ byNumber (heldFault s loaded (length before) .number) (heldList s loaded) before
-
--- the same number from two blocks of a sheet: the corner is a number beside their caps, and what is at its cap and held neither by feed nor by
--- corner is held by the chord rule (the law `held-rows`)
-unfoldable pub heldFrom : (a b : Measured) (speed : ℕ) → ℕ
-heldFrom a b speed =
-    cond (eqb speed (min (min (a .numbers .cap) (b .numbers .cap)) (b .corner)))
-    (cond (eqb (min (a .square) (b .square)) speed) 0 (cond (eqb (b .corner) speed) 1 2))
-    3

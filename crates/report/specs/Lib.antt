@@ -3,4 +3,5 @@ pub mod Counts
 pub mod Held
 pub mod Figures
 pub mod Report
+pub mod Rows
 pub mod Text

@@ -3,9 +3,9 @@
 use mathlib.Core.Path.{_≡_}
 use mathlib.Core.Bool.{cond}
 use mathlib.Core.List.{List, _∷_, []}
-use Prim.Native.Nat.{ℕ, suc, _+_, _*_, _%_, _^_, _≤_, max}
+use Prim.Native.Nat.{ℕ, suc, _+_, _%_, _^_, _≤_, max}
 use lib.Dec.{ltb}
-use lib.ListN.{length, replicate}
+use lib.ListN.{length}
 use Rattle.display.specs.Display.{Fault, Outcome, byNumber, _at_, _else_}
 use Rattle.profile.specs.Line.{numberAt}
 use Rattle.line.specs.Chains.{Chain}

@@ -1,5 +1,4 @@
 -- The text of a report, as ASCII bytes: a header, a line for each tape with its name, and a line for all.
-use mathlib.Core.Path.{_≡_}
 use mathlib.Core.List.{List, _∷_, _++_, []}
 use Prim.Native.Nat.{ℕ, _+_, _*_, _≤_}
 use lib.ListN.{length}

@@ -1,13 +1,13 @@
 -- The tape of limits and a text, stored in the lent bytes: the records first, then the limits before them. From the laws of stored texts.
 use mathlib.Core.Path.{_≡_, refl, sym, ap, subst, _∙_}
-use mathlib.Core.List.{List, [], _∷_, _++_, append-assoc, append-nil}
-use Prim.Native.Nat.{ℕ, zero, suc, _+_, _-_, _*_, _^_, _≤_, _<_}
+use mathlib.Core.List.{List, _++_, append-assoc, append-nil}
+use Prim.Native.Nat.{ℕ, zero, suc, _+_, _-_, _*_, _≤_, _<_}
 use native.Mathlib.Nat.{le-of-eq}
 use native.Mathlib.Omega.{arith}
 use borrow.Author.Tests.{ltb-false}
 use borrow.Rule.Slice.PartMut.{midOf, putMid, put-same, same-len-mid}
 use lib.Dec.{ltb, lit<}
-use lib.ListN.{length, take, drop, getD, length-append, length-drop, drop-of-length-le}
+use lib.ListN.{length, take, drop, length-append, length-drop, drop-of-length-le}
 use lib.Seq.{take-all, drop-at, drop-drop, length-take-le}
 use Rattle.display.specs.Display.{refusalNumber, byNumber, Fault, _at_, _else_}
 use Rattle.display.specs.declared.Refusal.{Refusal}
@@ -18,24 +18,14 @@ use Rattle.tape.specs.declared.LimitsRead.{LimitsRead}
 use Rattle.tape.specs.declared.LimitsRead.the-variants as limits
 use Rattle.tape.proofs.Answers.{enough}
 use Rattle.text.specs.Store.{put, Stored, Answered, placeBehind}
-use Rattle.text.specs.Text.{refusedAt, refusedWords}
+use Rattle.text.specs.Text.{refusedAt}
 use Rattle.text.specs.declared.Put.{Put}
-use Rattle.text.proofs.Lines.{line-most, refused-most}
 use Rattle.text.proofs.Store.{stored-with-room}
 use Rattle.rs274.specs.Answers.{textBlocks, linesFault, recordsOf, textFault, textAnswer, textWritten, textMeans, WroteText, tapeFault, tapeOrLine}
 use Rattle.rs274.specs.declared.TextAnswer.{TextAnswer}
 use Rattle.rs274.specs.declared.TextAnswer.the-variants as answer
 use Rattle.rs274.proofs.Accepted.{text-few}
 use Rattle.rs274.proofs.Keeping.{length-records}
-
--- A refusal's line has room.
-pub refusal-room : (number place size : ℕ) → number < 2 ^ 64 → place < 2 ^ 64 → size ≡ mostBytes → 0 + length (refusedAt number place) ≤ size
-refusal-room number place size n p e = omega (arith, line-most (refusedWords number) (place ∷ []) each, refused-most number n)
-  where
-    each : (i : ℕ) → getD (place ∷ []) i 0 < 2 ^ 64
-    each zero = p
-    each (suc zero) = omega arith
-    each (suc (suc i)) = omega arith
 
 -- The limits' bytes are stored.
 pub limits-stored : (head out : List ℕ) {after : List ℕ} {put-answer : Put} {end : ℕ} → limitsBytes ≤ length head → length out ≡ mostBytes

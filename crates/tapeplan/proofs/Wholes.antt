@@ -10,7 +10,7 @@ use lib.Seq.{length-take-le}
 use Rattle.profile.specs.Line.{numberAt}
 use Rattle.display.specs.Display.{Fault, _at_, byNumber}
 use Rattle.display.proofs.Answers.{at-zero, above-zero}
-use Rattle.tape.specs.Answers.{mostBlocks, tapeRefusal}
+use Rattle.tape.specs.Answers.{mostBlocks}
 use Rattle.tape.specs.Tape.{recordsIn}
 use Rattle.tapeplan.specs.Planned.{MeasuredTape, WholeTape, mostJunctions, planFault, tapeMachine, tapePlan, wholeFault, wholeRefusal}
 use Rattle.tapeplan.specs.Sheet.{SheetAfter, over}

@@ -7,7 +7,7 @@ use mathlib.Core.List.{List, _∷_, _++_, append-nil, []}
 use lib.ListN.{length, getD, take, drop, set, length-append}
 use lib.Seq.{take-all, drop-cons, lt-length-set}
 use Rattle.text.specs.Store.{put, Stored}
-use Rattle.text.specs.Text.{space, lineFeed, decimal, spaced, line, named, row, namedRow, refusedWords, refusedNamed}
+use Rattle.text.specs.Text.{space, lineFeed, decimal, spaced, line, named, row, namedRow, refusedAt, refusedWords, refusedNamed}
 use Rattle.text.proofs.Decimal.{length-word}
 use Rattle.text.proofs.Store.{put-next, put-cons}
 
@@ -82,7 +82,7 @@ unfolding row
 row-most [] h = omega arith
 row-most (n ∷ numbers) h = omega (arith, line-most (decimal n) numbers (λ i. h (suc i)), length-word n (h 0))
 
--- With a name: the longest row of numbers, or refusal, and the name.
+-- With a name: the longest row of numbers, and the name.
 pub named-most : (words numbers name : List ℕ) → ((i : ℕ) → getD numbers i 0 < 2 ^ 64)
     → length (named words numbers name) ≤ length words + 21 * length numbers + length name + 2
 named-most words numbers name h = omega (arith, length-named words numbers name, spaced-most numbers h)
@@ -93,10 +93,14 @@ unfolding namedRow
 named-row-most [] name h = rw (length-append name (lineFeed ∷ [])) (omega arith)
 named-row-most (n ∷ numbers) name h = omega (arith, named-most (decimal n) numbers name (λ i. h (suc i)), length-word n (h 0))
 
+-- The longest refusal, without a name and with one.
+alone : {n : ℕ} → n < 2 ^ 64 → (i : ℕ) → getD (n ∷ []) i 0 < 2 ^ 64
+alone h zero = h
+alone h (suc i) = omega arith
+
+pub refused-at-most : (number place : ℕ) → number < 2 ^ 64 → place < 2 ^ 64 → length (refusedAt number place) ≤ 53
+refused-at-most number place n p = omega (arith, line-most (refusedWords number) (place ∷ []) (alone p), refused-most number n)
+
 pub refused-named-most : (number place : ℕ) (name : List ℕ) → number < 2 ^ 64 → place < 2 ^ 64
     → length (refusedNamed number place name) ≤ 54 + length name
-refused-named-most number place name n p = omega (arith, named-most (refusedWords number) (place ∷ []) name each, refused-most number n)
-  where
-    each : (i : ℕ) → getD (place ∷ []) i 0 < 2 ^ 64
-    each zero = p
-    each (suc i) = omega arith
+refused-named-most number place name n p = omega (arith, named-most (refusedWords number) (place ∷ []) name (alone p), refused-most number n)

@@ -1,6 +1,5 @@
 -- `arguments::at_of` meets its contract, by what was read.
 use mathlib.Core.Path.{sym, ap}
-use Prim.Native.Nat.{ℕ}
 use Rattle.arguments.specs.declared.FileRead.{FileRead}
 use Rattle.arguments.specs.Files.{atOf}
 use borrow.Author.Needs.{needs}

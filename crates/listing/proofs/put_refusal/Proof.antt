@@ -3,8 +3,8 @@ use mathlib.Core.Path.{ap}
 use Prim.Native.Nat.{ℕ}
 use native.Mathlib.Omega.{arith}
 use Rattle.text.specs.Text.{refusedAt}
+use Rattle.text.proofs.Lines.{refused-at-most}
 use Rattle.text.proofs.Store.{stored-with-room}
-use Rattle.listing.proofs.Lengths.{refusal-short}
 use Rattle.listing.proofs.Parts.{first-stored, later-stored}
 use borrow.Author.Needs.{needs}
 use Rattle.listing.proofs.put_refusal.Statement.{statement}
@@ -22,7 +22,7 @@ returns-2 c =
     first-stored (start .args .p) (λ h. omega (arith, arm .if1 .left))
     (ap (λ (n : ℕ). refusedAt n (start .args .place)) (number .refusal-number .ensures))
     (stored-with-room
-    (omega (arith, start .pre, refusal-short (number .refusal-number .result) (start .args .place) (number .refusal-number .ok) (start .fits .place .fits)))
+    (omega (arith, start .pre, refused-at-most (number .refusal-number .result) (start .args .place) (number .refusal-number .ok) (start .fits .place .fits)))
     (put .put-refused-at .ensures)
     (c .behind .ensures))
 

@@ -1,7 +1,6 @@
 -- `planreport::say_files` is safe and ends: at most as many files are reported on as there are words.
 use mathlib.Core.Path.{_≡_, refl}
 use Prim.Native.Nat.{_-_}
-use native.Mathlib.Omega.{arith}
 use lib.ListN.{length}
 use borrow.Author.Needs.{needs}
 use Rattle.planreport.proofs.say_files.Statement.{statement}

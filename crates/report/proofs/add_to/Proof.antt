@@ -1,5 +1,5 @@
 -- `report::add_to`: how many tapes were accepted decides, and then the tape's own checks. From the laws of answers.
-use mathlib.Core.Path.{_≡_, sym, ap, _∙_}
+use mathlib.Core.Path.{sym, ap, _∙_}
 use mathlib.Core.List.{List}
 use Prim.Native.Nat.{ℕ, _+_, _<_}
 use native.Mathlib.Omega.{arith}

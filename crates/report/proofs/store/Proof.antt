@@ -1,5 +1,4 @@
 -- `report::store`: the list is stored whole.
-use mathlib.Core.List.{_∷_, []}
 use native.Mathlib.Omega.{arith}
 use lib.ListN.{length-set}
 use Rattle.machine.proofs.Runs.{sets-all}

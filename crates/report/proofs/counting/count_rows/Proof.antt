@@ -2,7 +2,7 @@
 use mathlib.Core.Path.{_≡_, ap, _∙_}
 use Prim.Native.Nat.{_-_, _≤_}
 use native.Mathlib.Omega.{arith}
-use Rattle.report.specs.Figures.{rowFigures}
+use Rattle.report.specs.Rows.{rowFigures}
 use Rattle.report.proofs.Rows.{countable-fewer, rows-none}
 use borrow.Author.Needs.{needs}
 use Rattle.report.proofs.counting.count_rows.Statement.{statement}

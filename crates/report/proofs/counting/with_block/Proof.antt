@@ -2,7 +2,7 @@
 use mathlib.Core.Path.{ap, _∙_}
 use Prim.Native.Nat.{max}
 use borrow.Author.Needs.{needs}
-use Rattle.report.specs.Figures.{blockFigures}
+use Rattle.report.specs.Rows.{blockFigures}
 use Rattle.report.proofs.counting.with_block.Statement.{statement}
 use Rattle.report.proofs.counting.with_block.Tie as tie
 

@@ -1,13 +1,12 @@
 -- `report::counting::with_row`: the row's block, and the junction where it begins. From the laws of rows.
 use mathlib.Core.Path.{_≡_, sym, ap, subst, _∙_}
 use mathlib.Core.List.{List}
-use Prim.Native.Nat.{ℕ, _+_, _-_, _<_, _^_}
+use Prim.Native.Nat.{ℕ, _+_, _-_}
 use native.Mathlib.Omega.{arith}
 use Rattle.profile.specs.Line.{numberAt}
 use Rattle.tapeplan.specs.Sheet.{measuredAt}
 use Rattle.tapeplan.specs.declared.Measured.{Measured}
-use Rattle.report.specs.Figures.{blockFigures, heldFigures, rowFigures}
-use Rattle.report.specs.Held.{heldFrom}
+use Rattle.report.specs.Rows.{blockFigures, heldFigures, heldFrom, rowFigures}
 use Rattle.report.specs.declared.Figures.{Figures}
 use Rattle.report.proofs.Rows.{Room, rows-begin, rows-behind, rows-room}
 use borrow.Author.Needs.{needs}

@@ -1,13 +1,12 @@
 -- `report::held::held_back`: the answer of planning decides, and then the list's length. From the laws of an accepted tape and of answers.
-use mathlib.Core.Path.{_≡_, refl, sym, ap, _∙_}
+use mathlib.Core.Path.{_≡_, sym, ap, _∙_}
 use mathlib.Core.List.{List}
 use Prim.Native.Nat.{ℕ, _-_}
 use native.Mathlib.Omega.{arith}
-use lib.ListN.{length}
 use Rattle.tape.specs.Tape.{recordsIn}
 use Rattle.tapeplan.specs.Planned.{plannedMeans}
 use Rattle.report.specs.Counts.{listFrom}
-use Rattle.report.specs.Figures.{rowHeld}
+use Rattle.report.specs.Rows.{rowHeld}
 use Rattle.report.proofs.Accepted.{planned-few, planned-held, planned-passed}
 use Rattle.report.proofs.Answers.{held-filled, held-refused, held-short}
 use borrow.Author.Needs.{needs}

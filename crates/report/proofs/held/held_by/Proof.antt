@@ -1,11 +1,11 @@
 -- `report::held::held_by` meets its contract: the tests decide, in their order.
 use mathlib.Core.Path.{_≡_, sym, _∙_}
 use Prim.Native.Nat.{min}
-use mathlib.Core.Bool.{true, false}
+use mathlib.Core.Bool.{true}
 use lib.Dec.{eqb}
 use borrow.Author.Needs.{needs}
 use borrow.Author.Tests.{eq-eqb, ne-eqb}
-use Rattle.report.specs.Held.{heldFrom}
+use Rattle.report.specs.Rows.{heldFrom}
 use Rattle.report.proofs.held.held_by.Statement.{statement}
 use Rattle.report.proofs.held.held_by.Tie as tie
 

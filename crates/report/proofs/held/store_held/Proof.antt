@@ -3,12 +3,11 @@ use mathlib.Core.Path.{_≡_, refl, sym, _∙_}
 use mathlib.Core.List.{List}
 use Prim.Native.Nat.{ℕ, _+_, _-_, _≤_}
 use Rattle.profile.specs.Line.{numberAt}
-use Rattle.report.specs.Held.{heldFrom}
 use native.Mathlib.Omega.{arith}
 use lib.ListN.{length}
 use Rattle.tapeplan.proofs.Copies.{Copying, copy-all}
 use Rattle.report.specs.Counts.{listFrom}
-use Rattle.report.specs.Figures.{rowHeld}
+use Rattle.report.specs.Rows.{heldFrom, rowHeld}
 use Rattle.report.proofs.Rows.{held-between, list-length, list-next, over-all}
 use borrow.Author.Needs.{needs}
 use Rattle.report.proofs.held.store_held.Statement.{statement}

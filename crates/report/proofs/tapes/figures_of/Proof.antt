@@ -1,10 +1,8 @@
 -- `report::tapes::figures_of`: the answer of planning decides. From the laws of an accepted tape's figures.
-use mathlib.Core.Path.{_≡_, refl, sym, ap, subst, _∙_}
-use mathlib.Core.List.{List}
-use Prim.Native.Nat.{ℕ}
-use native.Mathlib.Omega.{arith}
+use mathlib.Core.Path.{refl, sym, ap, subst, _∙_}
 use Rattle.tapeplan.specs.Planned.{plannedMeans, wholeFault}
-use Rattle.report.specs.Figures.{Countable, figuresOf, rowFigures, tapeFigures}
+use Rattle.report.specs.Figures.{figuresOf, tapeFigures}
+use Rattle.report.specs.Rows.{Countable, rowFigures}
 use Rattle.report.proofs.Accepted.{planned-countable, planned-figures, planned-passed}
 use Rattle.report.proofs.Answers.{figured-given, figured-refused}
 use borrow.Author.Needs.{needs}

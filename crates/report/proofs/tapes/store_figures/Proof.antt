@@ -1,5 +1,4 @@
 -- `report::tapes::store_figures`: the list is stored whole.
-use mathlib.Core.List.{_∷_, []}
 use native.Mathlib.Omega.{arith}
 use lib.ListN.{length-set}
 use Rattle.machine.proofs.Runs.{sets-all}

@@ -2,12 +2,12 @@
 use mathlib.Core.Path.{ap, subst}
 use mathlib.Core.List.{List}
 use Prim.Native.Nat.{ℕ}
+use native.Mathlib.Omega.{arith}
 use borrow.Author.Needs.{needs}
-use lib.ListN.{length}
 use Rattle.text.specs.Store.{Stored}
 use Rattle.text.specs.Text.{refusedAt}
+use Rattle.text.proofs.Lines.{refused-at-most}
 use Rattle.text.proofs.Store.{stored-with-room}
-use Rattle.rs274.proofs.Making.{refusal-room}
 use Rattle.rs274.proofs.tapes.put_refusal.Statement.{statement}
 use Rattle.rs274.proofs.tapes.put_refusal.Tie as tie
 
@@ -19,7 +19,7 @@ returns c =
     subst (λ (t : List ℕ). Stored (s .args .out .now) 0 t (c .behind .result) (put .put-refused-at .last .0))
     (ap (λ (n : ℕ). refusedAt n (s .args .place)) (number .refusal-number .ensures))
     (stored-with-room
-    (refusal-room (number .refusal-number .result) (s .args .place) (length (s .args .out .now)) (number .refusal-number .ok) (s .fits .place .fits) (s .pre))
+    (omega (arith, refused-at-most (number .refusal-number .result) (s .args .place) (number .refusal-number .ok) (s .fits .place .fits), s .pre))
     (put .put-refused-at .ensures)
     (c .behind .ensures))
 

@@ -1,7 +1,6 @@
 -- `tapeplan::junctions::corner_of` meets its contract: k decides.
 use mathlib.Core.Path.{sym, _∙_}
 use native.Mathlib.Omega.{arith}
-use borrow.Author.Needs.{needs}
 use borrow.Author.Tests.{eq-eqb, ne-eqb}
 use Rattle.tapeplan.proofs.junctions.corner_of.Statement.{statement}
 use Rattle.tapeplan.proofs.junctions.corner_of.Tie as tie
