@@ -18,17 +18,11 @@ unfolding countTo
 count-below test zero = omega arith
 count-below test (suc k) = omega (arith, count-below test k, one-below (test k))
 
--- a sum of numbers that are at most b is at most as many times b,
+-- a sum of numbers that are at most b is at most as many times b.
 pub sum-below : (f : ℕ → ℕ) (b k : ℕ) → ((i : ℕ) → i < k → f i ≤ b) → sumTo f k ≤ k * b
 unfolding sumTo
 sum-below f b zero h = omega arith
 sum-below f b (suc k) h = omega (arith, sum-below f b k (λ i l. h i (omega arith)), h k (omega arith), suc-mul k b)
-
--- and so is the greatest of them.
-pub greatest-below : (f : ℕ → ℕ) (b k : ℕ) → ((i : ℕ) → i < k → f i ≤ b) → greatestTo f k ≤ b
-unfolding greatestTo
-greatest-below f b zero h = omega arith
-greatest-below f b (suc k) h = omega (arith, greatest-below f b k (λ i l. h i (omega arith)), h k (omega arith))
 
 -- The same numbers have the same count, sum, greatest number and list.
 pub count-same : (f g : ℕ → Bool) (k : ℕ) → ((i : ℕ) → i < k → f i ≡ g i) → countTo f k ≡ countTo g k

@@ -38,7 +38,7 @@ measuredAt sheet k =
       corner = numberAt sheet (rowSize * k + 6);
     }
 
--- the corner cap where block k of a tape begins, as a number beside the block caps of that junction; 0 for the first block, of which it is never read
+-- the corner cap where block k of a tape begins, as a number beside the block caps of that junction; 0 for the first block, before which there is none
 unfoldable pub cornerAt : Machine → (s : List ℕ) (k : ℕ) → ℕ
 cornerAt m s zero = 0
 cornerAt m s (suc k) = cornerBetween (m .limits) (recordAt s k) (recordAt s (suc k))

@@ -1,5 +1,5 @@
-// What a plan needs of a tape, the junction cap where each block begins and its reach, and what a listing needs besides,
-// in a sheet. Each record is decoded and its numbers are worked out once.
+// What a plan needs of a tape, the junction cap where each block begins and its reach, and what a listing or a report needs
+// besides, in a sheet. Each record is decoded and its numbers are worked out once.
 ghost use Prim.Native.Nat.{_≤_};
 ghost use lib.ListN.{length};
 ghost use Rattle.machine.specs.Numbers.{LimitsBelow};
