@@ -1,8 +1,9 @@
 -- `report::held::held_by` meets its contract: the tests decide, in their order.
 use mathlib.Core.Path.{_≡_, sym, _∙_}
 use Prim.Native.Nat.{min}
-use mathlib.Core.Bool.{true}
+use mathlib.Core.Bool.{true, false}
 use lib.Dec.{eqb}
+use native.Mathlib.Omega.{arith}
 use borrow.Author.Needs.{needs}
 use borrow.Author.Tests.{eq-eqb, ne-eqb}
 use Rattle.report.specs.Rows.{heldFrom}
@@ -27,22 +28,27 @@ module _ (c : tie.After-smaller) where
 returns-2 : tie.Need-returns-2
 unfolding heldFrom
 returns-2 c =
+    let k = c .before in
+    let a = s k .args in
+    rw (capped k, eq-eqb (min (a .a .square) (a .b .square)) (a .speed) (omega (arith, k .smaller .ensures, c .if2 .taken)))
+
+-- and not the feed's
+unfed : (c : tie.Else2) → eqb (min (s (c .before) .args .a .square) (s (c .before) .args .b .square)) (s (c .before) .args .speed) ≡ false
+unfed c =
     let a = s (c .before) .args in
-    rw (capped (c .before), eq-eqb (min (a .a .square) (a .b .square)) (a .speed) (sym (c .before .smaller .ensures) ∙ c .if2 .taken))
+    ne-eqb (min (a .a .square) (a .b .square)) (a .speed) (λ e. omega (arith, c .before .smaller .ensures, c .if2 .left))
 
 returns-3 : tie.Need-returns-3
 unfolding heldFrom
 returns-3 c =
-    let k = c .before .before in
-    let a = s k .args in
-    rw (capped k, ne-eqb (min (a .a .square) (a .b .square)) (a .speed) (λ e. c .before .if2 .left (k .smaller .ensures ∙ e)), eq-eqb (a .b .corner) (a .speed) (c .if3 .taken))
+    let a = s (c .before .before) .args in
+    rw (capped (c .before .before), unfed (c .before), eq-eqb (a .b .corner) (a .speed) (omega (arith, c .if3 .taken)))
 
 returns-4 : tie.Need-returns-4
 unfolding heldFrom
 returns-4 c =
-    let k = c .before .before in
-    let a = s k .args in
-    rw (capped k, ne-eqb (min (a .a .square) (a .b .square)) (a .speed) (λ e. c .before .if2 .left (k .smaller .ensures ∙ e)), ne-eqb (a .b .corner) (a .speed) (c .if3 .left))
+    let a = s (c .before .before) .args in
+    rw (capped (c .before .before), unfed (c .before), ne-eqb (a .b .corner) (a .speed) (λ e. omega (arith, c .if3 .left)))
 
 pub held-by-spec : {M : Type 1} → statement M
 held-by-spec = tie.close (tie.spec (λ c κs. search needs) returns (λ c κs. search needs) returns-2 returns-3 returns-4)
