@@ -8,7 +8,6 @@ ghost use Rattle.report.specs.Rows.{heldFrom, rowHeld};
 ghost use Rattle.report.specs.Held.{HeldTape};
 use arith::whole::smaller;
 use display::Refusal;
-use machine::corner::cap_beside;
 use tape::records::records_in;
 use tapeplan::Measured;
 use tapeplan::TapePlanned;
@@ -31,7 +30,8 @@ pub(crate) fn held_by(a: Measured, b: Measured, speed: u64) -> u64
     ensures { λ r. ⌜ r ≡ heldFrom a b speed ⌝ }
 {
     let corner = b.corner;
-    let cap = cap_beside(a.numbers, b.numbers, corner);
+    let block = smaller(a.numbers.cap, b.numbers.cap);
+    let cap = smaller(block, corner);
     if speed != cap {
         return REACH;
     }
