@@ -1,11 +1,12 @@
 -- The figures of an accepted tape, and what held its junctions, from its sheet and its plan. From the laws of rows, of counts, of causes and of an
 -- accepted tape.
 use mathlib.Core.Path.{_≡_, sym, ap, _∙_}
-use mathlib.Core.Bool.{Bool}
+use mathlib.Core.Bool.{Bool, true}
 use mathlib.Core.List.{List}
 use Prim.Native.Nat.{ℕ, suc, _-_, _^_, _≤_, _<_, zero-le}
 use native.Mathlib.Decide.{decLt}
 use native.Mathlib.Omega.{arith}
+use borrow.Author.Tests.{eqb-false, not-true}
 use lib.Dec.{eqb}
 use lib.ListN.{length}
 use Rattle.profile.specs.Line.{capAt, numberAt}
@@ -47,6 +48,16 @@ tape-ticks s own =
 pub caps-are : (s loaded : List ℕ) (i : ℕ) → wholeRefusal s loaded ≡ 0 → suc i < recordsIn s → leastCap (capsAt s i) ≡ capAt (tapeSpans s loaded) (suc i)
 caps-are s loaded i passed h =
     caps-least (tapeLimits s) (recordAt s i) (recordAt s (suc i)) (tape-ticks s (whole-passed s loaded passed .0)) ∙ cap-next (tapeMachine s loaded) s i h
+
+-- So no speed is above it, and what the reach holds is below it.
+module _ (s loaded : List ℕ) (i : ℕ) (passed : wholeRefusal s loaded ≡ 0) (inner : suc i < recordsIn s) where
+  pub speed-capped : speedAt s loaded i ≤ leastCap (capsAt s i)
+  speed-capped =
+      let spans : length (tapeSpans s loaded) ≡ recordsIn s = spans-length (tapeMachine s loaded) (tapeBlocks s) ∙ length-blocks s in
+      omega (arith, plan-lawful 0 (tapeSpans s loaded) zero-le .capped (suc i) (omega arith) (omega (arith, spans)), caps-are s loaded i passed inner)
+
+  pub reach-below : byReach (capsAt s i) (speedAt s loaded i) ≡ true → speedAt s loaded i < leastCap (capsAt s i)
+  reach-below e = omega (arith, speed-capped, eqb-false (speedAt s loaded i) (leastCap (capsAt s i)) (not-true _ e))
 
 module _ (s loaded sheet plan : List ℕ) (passed : wholeRefusal s loaded ≡ 0)
     (rows : (k : ℕ) → k < recordsIn s → measuredAt sheet k ≡ measuredOf (tapeMachine s loaded) s k)

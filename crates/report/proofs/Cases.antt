@@ -21,9 +21,9 @@ use Rattle.tape.specs.Tape.{limitsAt, zeroBits, blockAt, blocksFrom, tapeBlocks
 use Rattle.tape.specs.Answers.{limitsFault, headRefusal, faultFrom}
 use Rattle.tapeplan.specs.Planned.{tapePlan, wholeFault}
 use Rattle.report.specs.Counts.{countTo, greatestTo, listFrom, sumTo}
-use Rattle.report.specs.Figures.{tapeFigures}
+use Rattle.report.specs.Figures.{figureNumbers, tapeFigures}
 use Rattle.report.specs.Held.{capsAt, heldBy, heldList}
-use Rattle.report.specs.Report.{addFault}
+use Rattle.report.specs.Report.{addFault, allOf}
 use Rattle.report.specs.declared.Figures.{Figures}
 
 -- figures in the order in which a line has them
@@ -127,6 +127,17 @@ short =
       figures = figures 3 30 6_000_000 0 0 0 2;
     }
 
+-- three straight on, of which the one between has the higher feed: the smaller of the two
+feeds : Case
+feeds =
+    record {
+      tape = machine ++ 0 ∷ 31 ∷ 64 ∷ 0 ∷ 0 ∷ 0 ∷ 0 ∷ 0 ∷ 0 ∷ 125 ∷ 0 ∷ 0 ∷ 0 ∷ 0 ∷ 0 ∷ 1 ∷ 0 ∷ 31 ∷ 64 ∷ 0 ∷ 0 ∷ 0 ∷ 0 ∷ 0 ∷ 9 ∷ 196 ∷ 0 ∷ 0 ∷ 0 ∷ 0 ∷ 0 ∷ 2 ∷ 0 ∷ 31 ∷ 64 ∷ 0 ∷ 0 ∷ 0 ∷ 0 ∷ 0 ∷ 0 ∷ 125 ∷ 0 ∷ 0 ∷ 0 ∷ 0 ∷ 0 ∷ 3 ∷ [];
+      steps = [];
+      plan = 0 ∷ 1_000_000 ∷ 1_000_000 ∷ 0 ∷ [];
+      held = 0 ∷ 0 ∷ [];
+      figures = figures 3 3000 201_000_000 2 0 0 0;
+    }
+
 -- limits only
 empty : Case
 empty =
@@ -139,9 +150,14 @@ empty =
     }
 
 -- each of them comes to its plan, to what holds it and to its figures
-worked : All Right (pair ∷ slowPair ∷ mixed ∷ backFeed ∷ backRadius ∷ straightRadius ∷ short ∷ empty ∷ [])
-unfolding machine pair slowPair mixed backFeed backRadius straightRadius short empty heldBy leastCap capsBetween listFrom countTo sumTo greatestTo tapeFigures wholeFault headRefusal limitsFault zeroBits limitsAt blockAt blocksFrom tapeBlocks faultFrom limitsFrom labelledBlock numberOf joined split signedOf limitsRefusal limitsWithin greatestMove blockRefusal falling stepsRefusal torquePercent rootOf rootByDigits nextRoot cappedQuotient lengthFrom axisLimit eachAxis speedOf axisAccel accelOf reachFrom chordFactor chordCap blockCapFrom numbersOf turnFrom cornerFrom cornerCap junctionCap peakOf rampOf spansAfter spansOf brake startLimit forward planOf
-worked = (refl, refl, refl) and (refl, refl, refl) and (refl, refl, refl) and (refl, refl, refl) and (refl, refl, refl) and (refl, refl, refl) and (refl, refl, refl) and (refl, refl, refl) and done
+worked : All Right (pair ∷ slowPair ∷ mixed ∷ backFeed ∷ backRadius ∷ straightRadius ∷ short ∷ feeds ∷ empty ∷ [])
+unfolding machine pair slowPair mixed backFeed backRadius straightRadius short feeds empty heldBy leastCap capsBetween listFrom countTo sumTo greatestTo tapeFigures wholeFault headRefusal limitsFault zeroBits limitsAt blockAt blocksFrom tapeBlocks faultFrom limitsFrom labelledBlock numberOf joined split signedOf limitsRefusal limitsWithin greatestMove blockRefusal falling stepsRefusal torquePercent rootOf rootByDigits nextRoot cappedQuotient lengthFrom axisLimit eachAxis speedOf axisAccel accelOf reachFrom chordFactor chordCap blockCapFrom numbersOf turnFrom cornerFrom cornerCap junctionCap peakOf rampOf spansAfter spansOf brake startLimit forward planOf
+worked = (refl, refl, refl) and (refl, refl, refl) and (refl, refl, refl) and (refl, refl, refl) and (refl, refl, refl) and (refl, refl, refl) and (refl, refl, refl) and (refl, refl, refl) and (refl, refl, refl) and done
+
+-- the order of the figures in a list, and of a report's numbers
+listed : (figureNumbers (mixed .figures) ≡ 7 ∷ 3210 ∷ 400_000_000 ∷ 1 ∷ 1 ∷ 3 ∷ 1 ∷ []) × (allOf (4 ∷ 11 ∷ 7210 ∷ 400_000_000 ∷ 1 ∷ 3 ∷ 3 ∷ 2 ∷ []) ≡ figures 11 7210 400_000_000 1 3 3 2)
+unfolding mixed
+listed = (refl, refl)
 
 -- the caps of the three that are tied
 abbrev caps : (feed : ℕ) (corner chord : OpenCap) → JunctionCaps

@@ -3,7 +3,8 @@ use mathlib.Core.Bool.{Bool, true, false}
 use mathlib.Core.Path.{_≡_, refl, ap}
 use mathlib.Core.List.{_∷_}
 use Prim.Native.Nat.{ℕ, zero, suc, _+_, _*_, _≤_, _<_, max}
-use native.Mathlib.Nat.{add-zero, zero-add, suc-mul}
+use native.Mathlib.Decide.{decLe, decLt}
+use native.Mathlib.Nat.{not-suc-le-zero, add-zero, zero-add, suc-mul}
 use native.Mathlib.Omega.{arith}
 use lib.Dec.{eqb}
 use Rattle.report.specs.Counts.{one, countTo, sumTo, greatestTo, listFrom, timesIn}
@@ -23,6 +24,27 @@ pub sum-below : (f : ℕ → ℕ) (b k : ℕ) → ((i : ℕ) → i < k → f i �
 unfolding sumTo
 sum-below f b zero h = omega arith
 sum-below f b (suc k) h = omega (arith, sum-below f b k (λ i l. h i (omega arith)), h k (omega arith), suc-mul k b)
+
+-- The greatest of them is not below any, and one of them.
+pub greatest-above : (f : ℕ → ℕ) (k i : ℕ) → i < k → f i ≤ greatestTo f k
+unfolding greatestTo
+greatest-above f zero i h = absurd (not-suc-le-zero h)
+greatest-above f (suc k) i h = go (decLt i k) (greatest-above f k i)
+  where
+    go : Dec (i < k) → (i < k → f i ≤ greatestTo f k) → f i ≤ max (greatestTo f k) (f k)
+    go (yes g) above = omega (arith, above g)
+    go (no g) above = let same : i ≡ k = omega arith in omega (arith, ap f same)
+
+pub greatest-one : (f : ℕ → ℕ) (k : ℕ) → 0 < k → (i : ℕ) × (i < k) × (greatestTo f k ≡ f i)
+unfolding greatestTo
+greatest-one f zero h = absurd (not-suc-le-zero h)
+greatest-one f (suc zero) h = (0, omega arith, omega arith)
+greatest-one f (suc (suc k)) h = go (decLe (greatestTo f (suc k)) (f (suc k))) (greatest-one f (suc k) (omega arith))
+  where
+    go : Dec (greatestTo f (suc k) ≤ f (suc k)) → (i : ℕ) × (i < suc k) × (greatestTo f (suc k) ≡ f i)
+        → (i : ℕ) × (i < suc (suc k)) × (max (greatestTo f (suc k)) (f (suc k)) ≡ f i)
+    go (yes g) before = (suc k, omega arith, omega arith)
+    go (no g) before = (before .0, omega (arith, before .1), omega (arith, before .2))
 
 -- The same numbers have the same count, sum, greatest number and list.
 pub count-same : (f g : ℕ → Bool) (k : ℕ) → ((i : ℕ) → i < k → f i ≡ g i) → countTo f k ≡ countTo g k
