@@ -117,15 +117,19 @@ pub fn write_record(block: &Block, bytes: &mut [u8]) -> Result<(), Refusal> {
     answer_of(number)
 }
 
-/// The plan of a whole tape under loaded torque steps, none if the list of them
-/// is empty, in the list. The place is written by every call.
-pub fn plan_tape(tape: &[u8], steps: &[u8], list: &mut [u64]) -> Result<(), Fault> {
+/// A call of the library on a tape, torque steps, a list and a place.
+type OnTape =
+    unsafe extern "C" fn(*const u8, usize, *const u8, usize, *mut u64, usize, *mut u64) -> u64;
+
+/// Such a call under loaded torque steps, none if the list of them is empty; what
+/// it leaves in the list. The place is written by every call.
+fn on_tape(call: OnTape, tape: &[u8], steps: &[u8], list: &mut [u64]) -> Result<(), Fault> {
     let mut source = Guarded::new(tape, BYTE_GUARD);
     let mut loaded = Guarded::new(steps, BYTE_GUARD);
     let mut lent = Guarded::new(list, GUARD);
     let mut place = numbers(1);
     let number = unsafe {
-        fullerecru_plan_tape(
+        call(
             source.lend(),
             tape.len(),
             loaded.lend(),
@@ -138,12 +142,23 @@ pub fn plan_tape(tape: &[u8], steps: &[u8], list: &mut [u64]) -> Result<(), Faul
     source.confirm_only_read(tape);
     loaded.confirm_only_read(steps);
     confirm(number, list, &lent);
-    place.confirm();
     list.copy_from_slice(lent.list());
+    answer_at(number, &place)
+}
+
+/// What a number on the display says with the place that was written, which is 0
+/// where nothing is at fault.
+fn answer_at(number: u64, place: &Guarded<u64>) -> Result<(), Fault> {
+    place.confirm();
     let place = place.list()[0];
     answer_of(number).map_err(|refusal| Fault { refusal, place })?;
     assert_eq!(place, 0, "an accepted tape has no place at fault");
     Ok(())
+}
+
+/// The plan of a whole tape in the list.
+pub fn plan_tape(tape: &[u8], steps: &[u8], list: &mut [u64]) -> Result<(), Fault> {
+    on_tape(fullerecru_plan_tape, tape, steps, list)
 }
 
 /// A trace run under loaded torque steps, none if the list of them is empty:

@@ -3,10 +3,9 @@
 use reference::refusal::Fault;
 use reference::report::Figures;
 
-use super::{confirm, numbers, BYTE_GUARD, FILLER, GUARD};
+use super::{answer_at, confirm, numbers, on_tape, BYTE_GUARD, FILLER, GUARD};
 use crate::guarded::Guarded;
 use crate::library::*;
-use crate::words::answer_of;
 
 /// A report on lent memory.
 #[derive(Clone)]
@@ -69,38 +68,7 @@ impl Report {
     }
 }
 
-/// What held each inner junction of a tape, planned under loaded torque steps,
-/// none if the list of them is empty, in the list. The place is written by every
-/// call.
+/// What held each inner junction of a tape in the list.
 pub fn held_by(tape: &[u8], steps: &[u8], list: &mut [u64]) -> Result<(), Fault> {
-    let mut source = Guarded::new(tape, BYTE_GUARD);
-    let mut loaded = Guarded::new(steps, BYTE_GUARD);
-    let mut lent = Guarded::new(list, GUARD);
-    let mut place = numbers(1);
-    let number = unsafe {
-        fullerecru_held_by(
-            source.lend(),
-            tape.len(),
-            loaded.lend(),
-            steps.len(),
-            lent.lend(),
-            list.len(),
-            place.lend(),
-        )
-    };
-    source.confirm_only_read(tape);
-    loaded.confirm_only_read(steps);
-    confirm(number, list, &lent);
-    list.copy_from_slice(lent.list());
-    answer_at(number, &place)
-}
-
-/// What a number on the display says with the place that was written, which is 0
-/// where nothing is at fault.
-fn answer_at(number: u64, place: &Guarded<u64>) -> Result<(), Fault> {
-    place.confirm();
-    let place = place.list()[0];
-    answer_of(number).map_err(|refusal| Fault { refusal, place })?;
-    assert_eq!(place, 0, "an accepted tape has no place at fault");
-    Ok(())
+    on_tape(fullerecru_held_by, tape, steps, list)
 }
