@@ -7,6 +7,8 @@ use std::os::fd::AsRawFd;
 use std::os::unix::ffi::OsStrExt;
 use std::os::unix::fs::OpenOptionsExt;
 use std::path::{Path, PathBuf};
+use std::thread;
+use std::time::{Duration, Instant};
 
 extern "C" {
     fn grantpt(near: c_int) -> c_int;
@@ -73,5 +75,26 @@ fn done(answer: c_int) -> io::Result<()> {
     match answer {
         0 => Ok(()),
         _ => Err(io::Error::last_os_error()),
+    }
+}
+
+/// Waits until a process waits in a read for so many bytes, of a descriptor where
+/// one is said: then it has read what it was handed. Where the system does not
+/// say, or the program reads in another way, it is given some time instead.
+pub fn wait_for_read(process: u32, descriptor: Option<u32>, room: usize) {
+    let reads = format!("{room:#x}");
+    let of = descriptor.map(|number| format!("{number:#x}"));
+    let begin = Instant::now();
+    while begin.elapsed() < Duration::from_secs(5) {
+        let Ok(call) = fs::read_to_string(format!("/proc/{process}/syscall")) else {
+            return thread::sleep(Duration::from_millis(300));
+        };
+        let words: Vec<&str> = call.split(' ').collect();
+        // the number of the call, the descriptor, where to, how many
+        let asked = |of: &String| words[1] == of;
+        if words.len() > 3 && words[0] == "0" && of.iter().all(asked) && words[3] == reads {
+            return;
+        }
+        thread::sleep(Duration::from_micros(200));
     }
 }

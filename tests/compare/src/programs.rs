@@ -195,6 +195,14 @@ pub fn run(program: &PathBuf, input: &[u8]) -> String {
     run_in_pieces(program, input, usize::MAX)
 }
 
+/// A name of so many bytes: that of a file, by a long way.
+pub fn long_name(file: &[u8], length: usize) -> Vec<u8> {
+    let mut name = b"./".repeat((length - file.len()) / 2);
+    name.resize(length - file.len(), b'/');
+    name.extend(file);
+    name
+}
+
 /// The arguments by which a program loads a file of torque steps.
 pub fn steps_words(file: &Path) -> [&OsStr; 2] {
     [OsStr::new("--steps"), file.as_os_str()]

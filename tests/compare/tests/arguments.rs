@@ -598,14 +598,6 @@ fn a_file_that_cannot_be_read_is_told() {
     report(4 * names.len(), "files that could not be read");
 }
 
-/// A name of so many bytes: that of a file, by a long way.
-fn long_name(file: &[u8], length: usize) -> Vec<u8> {
-    let mut name = b"./".repeat((length - file.len()) / 2);
-    name.resize(length - file.len(), b'/');
-    name.extend(file);
-    name
-}
-
 /// The longest names open; longer ones are told by their beginning, and none
 /// is cut short and opened.
 #[test]

@@ -4,17 +4,15 @@
 //! have read whole. planreport.rs has files of tapes that break off.
 
 use std::ffi::OsStr;
-use std::fs::{self, File};
+use std::fs::File;
 use std::io::{self, Read, Write};
 use std::net::{TcpListener, TcpStream};
 use std::os::fd::OwnedFd;
 use std::os::unix::net::UnixStream;
 use std::path::PathBuf;
 use std::process::{Child, Command, Stdio};
-use std::thread;
-use std::time::{Duration, Instant};
 
-use compare::devices::Terminal;
+use compare::devices::{wait_for_read, Terminal};
 use compare::programs::*;
 use compare::report;
 use reference::examples::{example, example_text};
@@ -207,35 +205,15 @@ impl Reading {
     /// closed when all is read.
     fn run(&self, (mut near, far): Line, places: &[usize]) -> Output {
         let child = self.start(Stdio::from(far));
-        wait_for_read(child.id(), (self.room)(0));
+        wait_for_read(child.id(), Some(0), (self.room)(0));
         let mut got = 0;
         for place in places {
             near.write_all(&self.input[got..*place]).expect("a reader");
             got = *place;
-            wait_for_read(child.id(), (self.room)(got));
+            wait_for_read(child.id(), Some(0), (self.room)(got));
         }
         drop(near);
         output_of(child)
-    }
-}
-
-/// Waits until the process waits in a read of standard input for so many bytes,
-/// which are all that it has room for: then it has read what it was handed.
-/// Where the system does not say, or the program reads in another way, it is
-/// given some time instead.
-fn wait_for_read(process: u32, room: usize) {
-    let reads = format!("{room:#x}");
-    let begin = Instant::now();
-    while begin.elapsed() < Duration::from_secs(5) {
-        let Ok(call) = fs::read_to_string(format!("/proc/{process}/syscall")) else {
-            return thread::sleep(Duration::from_millis(300));
-        };
-        let words: Vec<&str> = call.split(' ').collect();
-        // the number of the call, the descriptor, where to, how many
-        if words.len() > 3 && words[..2] == ["0", "0x0"] && words[3] == reads {
-            return;
-        }
-        thread::sleep(Duration::from_micros(200));
     }
 }
 

@@ -15,10 +15,10 @@ use std::os::unix::process::CommandExt;
 use std::path::{Path, PathBuf};
 use std::process::{Command, Stdio};
 use std::thread;
-use std::time::{Duration, Instant};
+use std::time::Duration;
 
-use compare::devices::{self, Terminal};
-use compare::programs::{output_of, planreport, Output};
+use compare::devices::{self, wait_for_read, Terminal};
+use compare::programs::{long_name, output_of, planreport, Output};
 use compare::words::some_steps;
 use compare::{report as say, same, seeds};
 use reference::examples::{example, right_angle, what_held, NAMES};
@@ -513,14 +513,6 @@ fn names_have_any_byte() {
     say(names.len() + 2, "names of any bytes");
 }
 
-/// A name of so many bytes: that of a file, by a long way.
-fn long_name(file: &[u8], length: usize) -> Vec<u8> {
-    let mut name = b"./".repeat((length - file.len()) / 2);
-    name.resize(length - file.len(), b'/');
-    name.extend(file);
-    name
-}
-
 /// The longest names open and are written whole; longer ones are told by their
 /// beginning, and the files about them are reported.
 #[test]
@@ -666,24 +658,6 @@ fn files_that_cannot_be_had_are_told() {
     say(4 * names.len() + 1, "files that cannot be had");
 }
 
-/// Waits until a process waits in a read for so many bytes: then it has read what
-/// it was handed. Where the system does not say, it is given some time instead.
-fn wait_for_read(process: u32, room: usize) {
-    let reads = format!("{room:#x}");
-    let begin = Instant::now();
-    while begin.elapsed() < Duration::from_secs(5) {
-        let Ok(call) = fs::read_to_string(format!("/proc/{process}/syscall")) else {
-            return thread::sleep(Duration::from_millis(300));
-        };
-        let words: Vec<&str> = call.split(' ').collect();
-        // the number of the call, the descriptor, where to, how many
-        if words.len() > 3 && words[0] == "0" && words[3] == reads {
-            return;
-        }
-        thread::sleep(Duration::from_micros(200));
-    }
-}
-
 /// A tape on a terminal that is hung up after so many bytes is told, though what
 /// came before would be a tape.
 #[test]
@@ -697,10 +671,10 @@ fn a_tape_that_breaks_off_is_told() {
         folder.know(name, Err(BROKEN));
         let words = [b"pair", name, b"pair"];
         let child = folder.command(&words).spawn().expect("a program");
-        wait_for_read(child.id(), MOST_BYTES + 1);
+        wait_for_read(child.id(), None, MOST_BYTES + 1);
         if got > 0 {
             terminal.near.write_all(&tape[..got]).expect("a reader");
-            wait_for_read(child.id(), MOST_BYTES + 1 - got);
+            wait_for_read(child.id(), None, MOST_BYTES + 1 - got);
         }
         drop(terminal.near);
         let output = output_of(child);
