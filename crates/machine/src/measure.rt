@@ -2,7 +2,7 @@
 ghost use mathlib.Core.Path.{_≡_};
 ghost use Prim.Native.Nat.{_*_, _/_, _^_, _≤_, _<_, max};
 ghost use Rattle.machine.specs.Checks.{blockRefusal, movesOf};
-ghost use Rattle.machine.specs.Numbers.{AxesBelow, LimitsBelow, axisLimit, blockCapFrom, chordFactor, eachAxis, gaugedOf, lengthFrom, lengthOf, numbersOf, peakOf, speedOf};
+ghost use Rattle.machine.specs.Numbers.{AxesBelow, LimitsBelow, axisLimit, blockCapFrom, chordFactor, eachAxis, gaugedOf, lengthFrom, lengthOf, numbersOf, speedOf};
 ghost use Rattle.machine.specs.Ranges.{mostAccel, mostFeed, mostRadius};
 ghost use Rattle.machine.specs.Torque.{torquePercent};
 use crate::Axes;
@@ -141,12 +141,4 @@ pub fn numbers(m: Machine, b: Block) -> Numbers
 {
     let g = gauge(m, b);
     g.numbers
-}
-
-// The peak of a block with these numbers between two squared speeds, (µm/s)².
-pub fn peak_of(n: Numbers, entry: u64, exit: u64) -> u64
-    requires { ⌜ (n .reach < 2 ^ 62) × (entry < 2 ^ 62) × (exit < 2 ^ 62) ⌝ }
-    ensures { λ r. ⌜ r ≡ peakOf (n .cap) (n .reach) entry exit ⌝ }
-{
-    smaller(n.cap, (n.reach + entry + exit) / 2)
 }

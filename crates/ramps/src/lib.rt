@@ -1,15 +1,24 @@
-// A block given out with its ramp between its entry and exit squared speeds.
+// A block given out with its ramp between its entry and exit squared speeds, and the peak alone.
 ghost use mathlib.Core.Path.{_≡_};
 ghost use mathlib.Core.Bool.{cond};
-ghost use Rattle.machine.specs.Numbers.{Rampable, noRamp, rampOf, rampable, sized};
+ghost use Prim.Native.Nat.{_^_, _<_};
+ghost use Rattle.machine.specs.Numbers.{Rampable, noRamp, peakOf, rampOf, rampable, sized};
 ghost use Rattle.line.specs.Answers.{givenBetween};
 use arith::whole::less;
+use arith::whole::smaller;
 use line::Given;
 use machine::Block;
 use machine::Numbers;
 use machine::Ramp;
 use machine::measure::UNIT;
-use machine::measure::peak_of;
+
+// The peak of a block with these numbers between two squared speeds of a plan, (µm/s)².
+pub fn peak_of(n: Numbers, entry: u64, exit: u64) -> u64
+    requires { ⌜ (n .reach < 2 ^ 62) × (entry < 2 ^ 62) × (exit < 2 ^ 62) ⌝ }
+    ensures { λ r. ⌜ r ≡ peakOf (n .cap) (n .reach) entry exit ⌝ }
+{
+    smaller(n.cap, (n.reach + entry + exit) / 2)
+}
 
 // The ramp. Only a plan's speeds meet what is required of entry and exit. Half of the divisor, or one less, is added before a
 // division: so up is the nearest with an exact half down, and down the nearest with an exact half up.

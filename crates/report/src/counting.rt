@@ -14,7 +14,7 @@ use crate::held::REACH;
 use crate::held::held_by;
 use arith::whole::larger;
 use machine::Numbers;
-use machine::measure::peak_of;
+use ramps::peak_of;
 use tapeplan::sheet::measured_at;
 
 // A count with one more where what held a junction is this.

@@ -1,8 +1,8 @@
--- `machine::measure::peak_of` meets its contract.
+-- `ramps::peak_of` meets its contract.
 use borrow.Author.Needs.{needs}
 use Rattle.machine.specs.Numbers.{peakOf}
-use Rattle.machine.proofs.measure.peak_of.Statement.{statement}
-use Rattle.machine.proofs.measure.peak_of.Tie as tie
+use Rattle.ramps.proofs.peak_of.Statement.{statement}
+use Rattle.ramps.proofs.peak_of.Tie as tie
 
 returns : tie.Need-returns
 unfolding peakOf
