@@ -1,21 +1,26 @@
 /* Fullerecru: a proved look-ahead speed planner for three-axis milling tables.
  *
- * Link with libfullerecru.a, for x86-64 Linux (ELF, System V calls); `rt staticlib fullerecru` makes
- * it. The library allocates nothing and keeps nothing between calls: all that it works on is lent
- * by the caller. Of the C library it calls memset and memcpy. It has at most 128 bytes of read-only data.
- * A call needs under 1 kB of stack, fullerecru_replay under 8 kB, fullerecru_plan_tape and
- * fullerecru_text under 34 kB, fullerecru_report_add and fullerecru_held_by under 280 kB.
+ * Link with libfullerecru.a or libfullerecru.so, for x86-64 Linux (ELF, System V calls); `make lib`
+ * makes both, `make install` installs them with this header. The library allocates nothing and keeps
+ * nothing between calls: all that it works on is lent by the caller. Of the C library it calls memset
+ * and memcpy. It has at most 128 bytes of read-only data. A call needs under 1 kB of stack,
+ * fullerecru_replay under 8 kB, fullerecru_plan_tape and fullerecru_text under 34 kB,
+ * fullerecru_report_add, fullerecru_held_by and fullerecru_list_tape under 280 kB.
+ *
+ * Where it may run: in a process or thread of Linux. The code uses SSE registers, and memory below
+ * the stack pointer (the red zone of System V calls). So it is not for a kernel, and not for an
+ * interrupt handler that does not save the one and keep off the other.
  *
  * Units: lengths in µm, speeds in µm/s, squared speeds in (µm/s)², accelerations in µm/s², the
  * tick in microseconds. Every quantity is a whole number, but for the doubles of a host's orders, in
  * mm and mm/s.
  *
- * Answers: every function but fullerecru_told, fullerecru_host_fresh, fullerecru_report_fresh and
- * fullerecru_position returns 0 where the call is accepted, else the number of its refusal (see
+ * Answers: every function but fullerecru_version, fullerecru_word, fullerecru_told,
+ * fullerecru_host_fresh, fullerecru_report_fresh and fullerecru_position returns 0 where the call is accepted, else the number of its refusal (see
  * below). Where several refusals hold, the one given is the first in the order that stands at the
  * function. A refused call changes nothing that was lent, but for the place that tells where a tape
- * or a text is at fault (fullerecru_plan_tape, fullerecru_report_add, fullerecru_held_by,
- * fullerecru_text). Any numbers, doubles and bytes are answered: the ranges below are checked, not
+ * or a text is at fault (fullerecru_plan_tape, fullerecru_list_tape, fullerecru_report_add,
+ * fullerecru_held_by, fullerecru_text). Any numbers, doubles and bytes are answered: the ranges below are checked, not
  * required.
  *
  * What the model leaves open: the acceleration limits hold along each block; at a junction the
@@ -24,6 +29,26 @@
  * With the radius, v²/R is below 8 × E / T² (chord tolerance E, tick T). Give each chord its
  * radius, and choose 8 × E / T² at most the acceleration limit and J at most acceleration limit ×
  * tick. Between moves of a few µm a corner may have no cap, since lengths are rounded down.
+ *
+ * Between ticks: a servo loop works out where the table is in a block that was handed out. At way s
+ * along it, from 0 to its length, each axis is at the block's start + move * s / length, with the
+ * length handed out, which is rounded down: with that one the axes keep their limits as the plan
+ * judged them, and s = length is the block's end. The squared speed there is the least of
+ * entry + 2 * a * s, peak, and exit + 2 * a * (length - s), a the acceleration handed out. By time: it
+ * speeds up for (sqrt(peak) - sqrt(entry)) / a and brakes for (sqrt(peak) - sqrt(exit)) / a seconds,
+ * s growing by v * t + a * t * t / 2 and by v * t - a * t * t / 2, and runs what is left of the length at
+ * sqrt(peak). examples/c/servo.c is such a loop.
+ *
+ * Feed override, feed hold and abort are not in the planner; a block that was handed out stays as it
+ * is. What to do instead:
+ * - Override below 100 % and hold: let the clock of the servo loop run slower, by a factor q. Speeds
+ *   become q and accelerations q * q times the plan's, so all limits are kept while q is steady; while
+ *   it changes, the path's acceleration has v * q' more, v the plan's speed and q' the change of q in a
+ *   second, so let q fall and rise slowly enough for the axes to bear both. q = 0 is a hold.
+ * - Override above 100 %: add later blocks with a higher feed. Blocks held keep theirs.
+ * - Abort: add no more and take what is held: the plan ends at rest with the last block. To leave the
+ *   path at once, brake by the drives' own means, then make the planner fresh, since it begins at
+ *   rest, and begin from where the table stands.
  *
  * Lent memory: a pointer must not be null and must be aligned as its type asks (8 bytes for the
  * lists of numbers and doubles, 1 for bytes). Behind it must be as many items as the array's size
@@ -43,6 +68,12 @@
 #ifdef __cplusplus
 extern "C" {
 #endif
+
+/* The version of this header, and as one number, 1,000,000 * major + 1,000 * minor + patch. That of the
+ * library is told by fullerecru_version: they are made for each other where the two numbers are the
+ * same. */
+#define FULLERECRU_VERSION_TEXT "0.10.0"
+enum { FULLERECRU_VERSION = 10000 };
 
 enum {
     /* Numbers of 64 bits in a planner's memory. */
@@ -66,6 +97,8 @@ enum {
     FULLERECRU_REPORT = 8,
     FULLERECRU_FIGURES = 7,
     FULLERECRU_MOST_TAPES = 100,
+    /* Numbers of a row of a tape's list: those of a block given out, and two caps. */
+    FULLERECRU_LISTED = 13,
     /* Bytes of the limits and of each record on tape. */
     FULLERECRU_LIMITS_BYTES = 24,
     FULLERECRU_RECORD_BYTES = 16,
@@ -78,6 +111,67 @@ enum {
     FULLERECRU_ROW = 15,
     /* Numbers of the list that a replay's plan is written in: FULLERECRU_PLACES + 1. */
     FULLERECRU_PLAN = 65
+};
+
+/* Where each number stands in the lists that are lent. */
+
+/* Limits: accelerations, µm/s²; speeds, µm/s; corner jump, µm/s; chord tolerance, µm; tick, µs. */
+enum fullerecru_limit {
+    FULLERECRU_LIMIT_ACCEL_X = 0,
+    FULLERECRU_LIMIT_ACCEL_Y = 1,
+    FULLERECRU_LIMIT_ACCEL_Z = 2,
+    FULLERECRU_LIMIT_SPEED_X = 3,
+    FULLERECRU_LIMIT_SPEED_Y = 4,
+    FULLERECRU_LIMIT_SPEED_Z = 5,
+    FULLERECRU_LIMIT_CORNER_JUMP = 6,
+    FULLERECRU_LIMIT_CHORD_TOLERANCE = 7,
+    FULLERECRU_LIMIT_TICK = 8
+};
+
+/* Numbers of a block given out by fullerecru_take, and of a row by fullerecru_list_tape: feed, µm/s;
+ * radius, µm; mark; length, µm; acceleration, µm/s²; entry, exit and peak, squared speeds, (µm/s)²;
+ * lengths run speeding up, at the peak and braking, µm. (planlist writes entry, peak, exit: here exit
+ * comes before peak.) A record that is read has the first three. A row of a tape has two more: the
+ * greatest squared speed in the block, and the cap of the junction where it begins, (µm/s)². */
+enum fullerecru_given {
+    FULLERECRU_GIVEN_FEED = 0,
+    FULLERECRU_GIVEN_RADIUS = 1,
+    FULLERECRU_GIVEN_MARK = 2,
+    FULLERECRU_GIVEN_LENGTH = 3,
+    FULLERECRU_GIVEN_ACCEL = 4,
+    FULLERECRU_GIVEN_ENTRY = 5,
+    FULLERECRU_GIVEN_EXIT = 6,
+    FULLERECRU_GIVEN_PEAK = 7,
+    FULLERECRU_GIVEN_UP = 8,
+    FULLERECRU_GIVEN_CRUISE = 9,
+    FULLERECRU_GIVEN_DOWN = 10,
+    FULLERECRU_LISTED_CAP = 11,
+    FULLERECRU_LISTED_JUNCTION_CAP = 12
+};
+
+/* The row that answers a call of a trace: the number on the display; moves X, Y, Z; then the numbers
+ * of a block given out, enum fullerecru_given from FULLERECRU_ANSWER_GIVEN on. */
+enum fullerecru_answer {
+    FULLERECRU_ANSWER_NUMBER = 0,
+    FULLERECRU_ANSWER_MOVE_X = 1,
+    FULLERECRU_ANSWER_MOVE_Y = 2,
+    FULLERECRU_ANSWER_MOVE_Z = 3,
+    FULLERECRU_ANSWER_GIVEN = 4
+};
+
+/* Figures of a tape, and of all tapes of a report behind its first number, which is how many tapes
+ * were accepted: blocks; total length, µm; greatest peak, a squared speed, (µm/s)²; inner junctions
+ * held by feed or axis, corner, chord rule and reach. */
+enum fullerecru_figure {
+    FULLERECRU_FIGURE_BLOCKS = 0,
+    FULLERECRU_FIGURE_LENGTH = 1,
+    FULLERECRU_FIGURE_PEAK = 2,
+    FULLERECRU_FIGURE_FEED = 3,
+    FULLERECRU_FIGURE_CORNER = 4,
+    FULLERECRU_FIGURE_CHORD = 5,
+    FULLERECRU_FIGURE_REACH = 6,
+    FULLERECRU_REPORT_TAPES = 0,
+    FULLERECRU_REPORT_ALL = 1
 };
 
 /* What held an inner junction of a tape: the feed or an axis, the corner, the chord rule, or the
@@ -130,6 +224,35 @@ enum fullerecru_refusal {
     FULLERECRU_REFUSED_BEYOND = 16
 };
 
+/* The word of a number on the display, as "ragged" of 9; "accepted" of 0, and "unknown" of a number that
+ * is none of them. */
+static inline const char *fullerecru_word(uint64_t number)
+{
+    switch (number) {
+    case FULLERECRU_ACCEPTED: return "accepted";
+    case FULLERECRU_REFUSED_LIMITS: return "limits";
+    case FULLERECRU_REFUSED_STILL: return "still";
+    case FULLERECRU_REFUSED_LONG: return "long";
+    case FULLERECRU_REFUSED_FEED: return "feed";
+    case FULLERECRU_REFUSED_RADIUS: return "radius";
+    case FULLERECRU_REFUSED_MARK: return "mark";
+    case FULLERECRU_REFUSED_FULL: return "full";
+    case FULLERECRU_REFUSED_EMPTY: return "empty";
+    case FULLERECRU_REFUSED_RAGGED: return "ragged";
+    case FULLERECRU_REFUSED_MANY: return "many";
+    case FULLERECRU_REFUSED_LIST: return "list";
+    case FULLERECRU_REFUSED_WORD: return "word";
+    case FULLERECRU_REFUSED_NUMBER: return "number";
+    case FULLERECRU_REFUSED_STEPS: return "steps";
+    case FULLERECRU_REFUSED_NOT_FINITE: return "not finite";
+    case FULLERECRU_REFUSED_BEYOND: return "beyond";
+    default: return "unknown";
+    }
+}
+
+/* The version of the library, as FULLERECRU_VERSION. */
+uint64_t fullerecru_version(void);
+
 /* Torque steps, where a function takes a pointer steps and steps_count: the percent of the
  * acceleration that the motors give at block speeds up to 125,000, 250,000, ... 1,000,000 µm/s, a
  * byte for each of the eight steps. They are accepted if each is 1 to 100 and none exceeds the one
@@ -170,13 +293,12 @@ uint64_t fullerecru_add(uint64_t memory[FULLERECRU_NUMBERS], int64_t x, int64_t 
 /* Takes the first block out and gives it to the caller. The speed at its end becomes the
  * committed one: every later plan begins with it.
  *
- * moves: X, Y, Z, µm. numbers: feed, µm/s; radius, µm; mark; length, µm; acceleration, µm/s²;
- * entry, exit and peak, squared speeds, (µm/s)²; and the ramp: the lengths run speeding up, at
- * the peak and braking, µm, which add up to the length. The length is rounded down to whole µm. The
+ * moves: X, Y, Z, µm. numbers: enum fullerecru_given, the first eleven. The lengths run speeding
+ * up, at the peak and braking are the ramp, and add up to the length. The length is rounded down to whole µm. The
  * lengths of speeding up and of braking go to the nearest µm, an exact half down for speeding up and
  * up for braking; the part at the peak is what they leave of the length. So they are off what the
  * squared speeds say by at most half a µm, and the part at the peak by less than 1 µm. A servo loop
- * interpolates from entry, peak, exit and acceleration.
+ * interpolates from entry, peak, exit and acceleration (see above).
  *
  * Refuses by 8. Accepted, it writes the memory, moves and numbers. */
 uint64_t fullerecru_take(uint64_t memory[FULLERECRU_NUMBERS], int64_t moves[FULLERECRU_MOVES],
@@ -236,11 +358,21 @@ uint64_t fullerecru_plan_tape(const uint8_t *tape, size_t count, const uint8_t *
                               size_t steps_count, uint64_t *list, size_t junctions,
                               uint64_t place[1]);
 
+/* Lists a tape that is planned as by fullerecru_plan_tape: for each block, in order, a row of
+ * FULLERECRU_LISTED numbers, enum fullerecru_given. The cap of the junction where the first block
+ * begins is 0, since a tape begins at rest. numbers, the size of rows, must be FULLERECRU_LISTED for
+ * each block.
+ *
+ * Refuses as fullerecru_plan_tape does, by 11 for that size, and writes place as it does. Accepted, it
+ * also writes rows. */
+uint64_t fullerecru_list_tape(const uint8_t *tape, size_t count, const uint8_t *steps,
+                              size_t steps_count, uint64_t *rows, size_t numbers,
+                              uint64_t place[1]);
+
 /* A report says what held tapes back, over up to 100 accepted tapes: eight numbers that the caller
  * keeps from call to call and that these functions alone write. The first is how many tapes were
- * accepted; the others are the figures of all of them, in the order of a tape's: blocks, total length,
- * µm, greatest peak, a squared speed, (µm/s)², 0 without blocks, and the inner junctions counted by
- * what held them: feed or axis, corner, chord, reach. Each inner junction counts once, so the four add
+ * accepted; the others are the figures of all of them, in the order of a tape's (enum
+ * fullerecru_figure); the greatest peak is 0 without blocks. Each inner junction counts once, so the four add
  * up to the inner junctions. From a fresh report on no sum is cut; any numbers are answered, and then
  * sums are taken modulo 2^64.
  *
@@ -272,9 +404,9 @@ uint64_t fullerecru_held_by(const uint8_t *tape, size_t count, const uint8_t *st
  * other words play no part. steps: the torque steps. numbers, the size of answers, must be 15 for
  * each call; junctions, the size of plan, must be 65.
  *
- * Each call gets a row of 15 in answers: the number on the display; then, of a block given out,
- * moves X, Y, Z in two's complement of 32 bits, feed, radius, mark, length, acceleration, entry,
- * exit, peak, and the lengths run speeding up, at the peak and braking; else 14 zeros.
+ * Each call gets a row of 15 in answers (enum fullerecru_answer): the number on the display; then,
+ * of a block given out, moves X, Y, Z in two's complement of 32 bits and its eleven numbers; else 14
+ * zeros.
  *
  * Refuses by 9, 1, 14, 11 in that order. Accepted, it writes answers, told[0] (the number of blocks
  * held at the end), and the first told[0] + 1 numbers of plan: the plan of the blocks still
