@@ -1,18 +1,15 @@
--- From what a report and what held a tape's junctions promise to the promises of their functions for C; two outcomes that meet them are equal.
+-- From what a report promises to the promise of its function for C; two outcomes that meet it are equal.
 use mathlib.Core.List.{List, _∷_, []}
 use mathlib.Core.Path.{_≡_, refl, sym, ap, _∙_}
 use Prim.Native.Nat.{ℕ}
 use Rattle.display.specs.Display.{Fault, given, refused, refusalNumber, _at_}
 use Rattle.display.specs.declared.Refusal.{Refusal}
 use Rattle.display.proofs.Answers.{above-zero, at-zero, given-is, refused-is}
-use Rattle.tapeplan.specs.Planned.{plannedMeans}
-use Rattle.tapeplan.specs.declared.TapePlanned.{TapePlanned}
 use Rattle.report.specs.Figures.{figureNumbers, figuresOf}
-use Rattle.report.specs.Held.{HeldTape}
 use Rattle.report.specs.Report.{Reported, addAnswer, addFault, tapesIn}
 use Rattle.report.specs.declared.Figures.{Figures}
 use Rattle.report.proofs.Answers.{accepted-place}
-use Rattle.fullerecru.specs.Reports.{HeldLent, ReportLent}
+use Rattle.fullerecru.specs.Reports.{ReportLent}
 
 module _ (report tape loaded : List ℕ) where
   abbrev fault : Fault
@@ -47,20 +44,7 @@ pub lent-reported : {report tape loaded report′ figures figures′ place′ : 
     → Reported report tape loaded (addAnswer (tapesIn report) tape loaded) report′
 lent-reported l = record { answered = refl; left = l .report-is }
 
--- What held each junction, by the number and the place of its answer.
-pub held-lent : {tape loaded list list′ place′ : List ℕ} (r : TapePlanned) {n : ℕ} → HeldTape tape loaded list list′ r
-    → n ≡ plannedMeans r .number → place′ ≡ plannedMeans r .place ∷ [] → HeldLent tape loaded n list list′ place′
-held-lent r h e p =
-    record {
-      number-is = e ∙ ap (λ (f : Fault). f .number) (h .fault);
-      place-is = p ∙ ap (λ (f : Fault). f .place ∷ []) (h .fault);
-      list-is = h .list;
-    }
-
 -- From the promises alone each result and each lent number can be worked out.
 pub reported-one : {report tape loaded a b figures c d p q : List ℕ} {n k : ℕ} → ReportLent report tape loaded n a figures c p → ReportLent report tape loaded k b figures d q
     → (n ≡ k) × (a ≡ b) × (c ≡ d) × (p ≡ q)
 reported-one x y = (x .number-is ∙ sym (y .number-is), x .report-is ∙ sym (y .report-is), x .figures-are ∙ sym (y .figures-are), x .place-is ∙ sym (y .place-is))
-
-pub held-one : {tape loaded list a b p q : List ℕ} {n k : ℕ} → HeldLent tape loaded n list a p → HeldLent tape loaded k list b q → (n ≡ k) × (a ≡ b) × (p ≡ q)
-held-one x y = (x .number-is ∙ sym (y .number-is), x .list-is ∙ sym (y .list-is), x .place-is ∙ sym (y .place-is))

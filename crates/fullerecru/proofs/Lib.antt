@@ -3,6 +3,7 @@ pub mod Determined
 pub mod Displayed
 pub mod FromBytes
 pub mod WholeTapes
+pub mod LentLists
 pub mod LentTexts
 pub mod LentOrders
 pub mod LentReports

@@ -6,3 +6,4 @@ pub mod Plans
 pub mod Texts
 pub mod Orders
 pub mod Reports
+pub mod Version

@@ -8,7 +8,8 @@ use Rattle.machine.specs.Torque.{machineOf}
 use Rattle.line.specs.Blocks.{freshLine, lineAfterAll}
 use Rattle.tape.specs.Tape.{limitsAt}
 use Rattle.display.specs.Display.{byNumber}
-use Rattle.tapeplan.specs.Planned.{tapeSpans, tapePlan, planFault}
+use Rattle.tapeplan.specs.Planned.{tapeSpans, tapePlan, planFault, sizedFault}
+use Rattle.listing.specs.Rows.{rowsSize, tapeRows}
 use Rattle.replay.specs.Trace.{traceCalls}
 use Rattle.replay.specs.Replays.{replayRefusal, Demanded, Unchanged}
 
@@ -19,6 +20,17 @@ pub record PlanLent (tape loaded : List ℕ) (number : ℕ) (list list′ place�
   pub place-is : place′ ≡ planFault tape loaded (length list) .place ∷ []
   pub list-is : list′ ≡ byNumber (planFault tape loaded (length list) .number) (tapePlan tape loaded) list
   pub highest : number ≡ 0 → Highest 0 (tapeSpans tape loaded) list′
+
+-- A list of some size that is filled with what is made of a tape planned with loaded torque steps: the number on the display, the place of the
+-- record at fault, and the list, or as it was.
+pub record FilledLent (tape loaded : List ℕ) (size : ℕ) (filling : List ℕ) (number : ℕ) (list list′ place′ : List ℕ) : Type 0 where
+  pub number-is : number ≡ sizedFault tape loaded size (length list) .number
+  pub place-is : place′ ≡ sizedFault tape loaded size (length list) .place ∷ []
+  pub list-is : list′ ≡ byNumber (sizedFault tape loaded size (length list) .number) filling list
+
+-- The rows of a tape's blocks.
+abbrev pub ListLent : (tape loaded : List ℕ) (number : ℕ) (list list′ place′ : List ℕ) → Type 0
+ListLent tape loaded number list list′ place′ = FilledLent tape loaded (rowsSize tape) (tapeRows tape loaded) number list list′ place′
 
 -- the number of blocks held after a trace
 abbrev pub toldAfter : (trace loaded : List ℕ) → ℕ

@@ -2,11 +2,11 @@
 use mathlib.Core.List.{List, _∷_, []}
 use mathlib.Core.Path.{_≡_}
 use Prim.Native.Nat.{ℕ}
-use lib.ListN.{length}
 use Rattle.display.specs.Display.{byNumber}
 use Rattle.report.specs.Figures.{figureNumbers, figuresOf}
-use Rattle.report.specs.Held.{heldFault, heldList}
+use Rattle.report.specs.Held.{heldList, innerIn}
 use Rattle.report.specs.Report.{addFault, reportAfter, tapesIn}
+use Rattle.fullerecru.specs.Plans.{FilledLent}
 
 -- A tape reported with loaded torque steps: the number on the display, the place of the record at fault, the tape's figures in the list for
 -- them, which is as it was where the tape is refused, and the report's numbers.
@@ -16,8 +16,6 @@ pub record ReportLent (report tape loaded : List ℕ) (number : ℕ) (report′ 
   pub figures-are : figures′ ≡ byNumber (addFault (tapesIn report) tape loaded .number) (figureNumbers (figuresOf tape loaded)) figures
   pub report-is : report′ ≡ reportAfter report tape loaded
 
--- What held each inner junction of a tape: the number, the place, and the list, or as it was.
-pub record HeldLent (tape loaded : List ℕ) (number : ℕ) (list list′ place′ : List ℕ) : Type 0 where
-  pub number-is : number ≡ heldFault tape loaded (length list) .number
-  pub place-is : place′ ≡ heldFault tape loaded (length list) .place ∷ []
-  pub list-is : list′ ≡ byNumber (heldFault tape loaded (length list) .number) (heldList tape loaded) list
+-- What held each inner junction of a tape, in a list of as many numbers.
+abbrev pub HeldLent : (tape loaded : List ℕ) (number : ℕ) (list list′ place′ : List ℕ) → Type 0
+HeldLent tape loaded number list list′ place′ = FilledLent tape loaded (innerIn tape) (heldList tape loaded) number list list′ place′

@@ -1,8 +1,9 @@
-// The plan of a whole tape, and the run of a trace, for C. Bytes and lists are handed over as a
+// The plan of a whole tape, its list, and the run of a trace, for C. Bytes and lists are handed over as a
 // pointer and their length.
-ghost use Rattle.fullerecru.specs.Plans.{PlanLent, ReplayLent};
+ghost use Rattle.fullerecru.specs.Plans.{ListLent, PlanLent, ReplayLent};
 use crate::numbers::put_number;
 use display::refusal_number;
+use listing::rows::list_tape;
 use replay::Replayed;
 use replay::replay;
 use tapeplan::TapePlanned;
@@ -23,6 +24,31 @@ pub extern "C" fn fullerecru_plan_tape(
     ensures { λ r. ⌜ PlanLent (now (tape .entry)) (now (steps .entry)) r (now (list .entry)) (now (list .exit)) (now (place .exit)) ⌝ }
 {
     match plan_tape(tape, steps, list) {
+        TapePlanned::Planned => {
+            put_number(place, 0);
+            0
+        }
+        TapePlanned::Refused(why, at) => {
+            put_number(place, at as u64);
+            refusal_number(why)
+        }
+    }
+}
+
+// Lists a tape that is planned as by `fullerecru_plan_tape`: the list gets 13 numbers for each block, in order: the eleven of
+// `fullerecru_take`, the greatest squared speed in the block, and the cap of the junction where it begins, (µm/s)², 0 for the
+// first. Refuses as `fullerecru_plan_tape`, by 11 where the list has not exactly so many numbers, and then the list stays as it
+// was.
+#[no_mangle]
+pub extern "C" fn fullerecru_list_tape(
+    tape: &[u8],
+    steps: &[u8],
+    list: &mut [u64],
+    place: &mut [u64; 1],
+) -> u64
+    ensures { λ r. ⌜ ListLent (now (tape .entry)) (now (steps .entry)) r (now (list .entry)) (now (list .exit)) (now (place .exit)) ⌝ }
+{
+    match list_tape(tape, steps, list) {
         TapePlanned::Planned => {
             put_number(place, 0);
             0

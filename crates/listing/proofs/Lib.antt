@@ -5,4 +5,5 @@ pub mod Lines
 pub mod Answers
 pub mod Lengths
 pub mod Parts
+pub mod TapeRows
 pub mod Whole

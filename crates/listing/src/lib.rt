@@ -1,6 +1,7 @@
 // The listing of a whole tape as document 01 words it, for every bytes: a header and one line for each block, or the one
 // line of the refusal. A tape is planned once, and its text comes in parts, each stored in bytes that the caller lends.
 pub mod given;
+pub mod rows;
 
 ghost use mathlib.Core.Path.{_≡_};
 ghost use Prim.Native.Nat.{_+_, _<_, _≤_};

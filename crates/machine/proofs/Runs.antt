@@ -1,19 +1,44 @@
 -- A run of numbers stored in a list, one after the other: what is read of it, and how code that stores by offsets makes it.
 use mathlib.Core.Bool.{Bool, true, false, cond}
-use mathlib.Core.List.{List, _∷_, [], append-nil}
+use mathlib.Core.List.{List, _∷_, _++_, [], append-assoc, append-nil}
 use mathlib.Core.Path.{_≡_, refl, ap, _∙_}
 use Prim.Native.Nat.{ℕ, zero, suc, _+_, _-_, _≤_, _<_}
 use borrow.Author.Tests.{ltb-true, ltb-false}
 use native.Mathlib.Omega.{arith}
 use lib.Dec.{ltb}
-use lib.ListN.{length, getD, set, length-set}
-use lib.Seq.{sets, sets-eq, drop-length, getD-set-same, getD-set-other}
+use lib.ListN.{length, take, drop, getD, set, drop-of-length-le, length-append, length-drop, length-set, length-take}
+use lib.Seq.{sets, sets-eq, drop-length, getD-set-same, getD-set-other, length-sets, length-take-le, take-at}
+use borrow.Rule.Slice.PartMut.{midOf, postOf, putMid}
 
 -- A list stored from its begin to its end is what was stored.
 pub sets-all : {A : Type 0} (vs l : List A) → length l ≡ length vs → sets l 0 vs ≡ vs
 sets-all vs l e =
     let all : 0 + length vs ≡ length l = omega arith in
     sets-eq vs l 0 (omega arith) ∙ rw (all, drop-length l) (append-nil vs)
+
+-- A list stored in the middle of another: what lies before its end.
+pub stored-behind : (list vs : List ℕ) (from k end : ℕ) → from ≤ length list → from + length vs ≡ end → take end (putMid from k list vs) ≡ take from list ++ vs
+stored-behind list vs from k end h e =
+    let long : length (take from list ++ vs) ≡ end = omega (arith, length-append (take from list) vs, length-take-le from list h) in
+    rw (← append-assoc (take from list) vs (postOf from k list)) (take-at (take from list ++ vs) (postOf from k list) end long)
+
+-- A list stored in two parts: from its beginning, and the rest of it, which is lent,
+module _ (list front back : List ℕ) (n k : ℕ) (f : length front ≡ n) (l : length list ≡ n + k) (b : length back ≡ k) where
+  pub stored-rest : putMid n k (sets list 0 front) back ≡ front ++ back
+  stored-rest =
+      let whole : length (sets list 0 front) ≡ n + k = length-sets list 0 front ∙ l in
+      let rest : length (drop n (sets list 0 front)) ≡ k = omega (arith, length-drop n (sets list 0 front)) in
+      let begin : take n (sets list 0 front) ≡ front = ap (take n) (sets-eq front list 0 (omega arith)) ∙ take-at front (drop (0 + length front) list) n f in
+      (λ i. begin i ++ (back ++ drop-of-length-le (drop n (sets list 0 front)) {i = k} (omega arith) i))
+      ∙ ap (λ (t : List ℕ). front ++ t) (append-nil back)
+
+  -- where it is stored as a run of its own.
+  pub stored-both : putMid n k (sets list 0 front) (sets (midOf n k (sets list 0 front)) 0 back) ≡ front ++ back
+  stored-both =
+      let whole : length (sets list 0 front) ≡ n + k = length-sets list 0 front ∙ l in
+      let rest : length (drop n (sets list 0 front)) ≡ k = omega (arith, length-drop n (sets list 0 front)) in
+      let lent : length (midOf n k (sets list 0 front)) ≡ length back = omega (arith, length-take k (drop n (sets list 0 front))) in
+      ap (putMid n k (sets list 0 front)) (sets-all back (midOf n k (sets list 0 front)) lent) ∙ stored-rest
 
 -- What is read before a run, behind it, and in it;
 pub sets-below : (vs m : List ℕ) (at k : ℕ) → k < at → getD (sets m at vs) k 0 ≡ getD m k 0

@@ -25,7 +25,8 @@ use Rattle.replay.specs.Trace.{callBytes, callOf, callIn, callsFrom}
 use Rattle.replay.specs.Rows.{rowOf, eachOf, rowSize}
 use Rattle.replay.specs.Replays.{planSize, Demanded}
 use Rattle.replay.specs.Runs.{Ran, ToldPlan}
-use Rattle.replay.proofs.Rows.{row-size, each-both, stored-behind}
+use Rattle.machine.proofs.Runs.{stored-behind}
+use Rattle.replay.proofs.Rows.{row-size, each-both}
 
 module _ {S C A : Type 0} {Step : S → C → A → S → Type 0} {written : A → List ℕ} where
   -- A run of calls behind calls,

@@ -1,6 +1,6 @@
 -- The figures of an accepted tape, and what held its junctions, from its sheet and its plan. From the laws of rows, of counts, of causes and of an
 -- accepted tape.
-use mathlib.Core.Path.{_≡_, sym, ap, _∙_}
+use mathlib.Core.Path.{_≡_, ap, _∙_}
 use mathlib.Core.Bool.{Bool, true}
 use mathlib.Core.List.{List}
 use Prim.Native.Nat.{ℕ, suc, _-_, _^_, _≤_, _<_, zero-le}
@@ -17,12 +17,11 @@ use Rattle.machine.specs.declared.Machine.{Machine}
 use Rattle.machine.proofs.Bounds.{limits-in, short}
 use Rattle.machine.proofs.CapCauses.{caps-least}
 use Rattle.machine.proofs.Spans.{spans-length}
-use Rattle.tape.specs.Answers.{mostBlocks, tapeRefusal}
+use Rattle.tape.specs.Answers.{tapeRefusal}
 use Rattle.tape.specs.Tape.{recordAt, recordsIn, tapeBlocks, tapeLimits}
 use Rattle.tape.proofs.Checks.{head-passed, limits-faultless}
 use Rattle.tape.proofs.Faults.{length-blocks, tape-passed}
-use Rattle.display.specs.Display.{Fault}
-use Rattle.tapeplan.specs.Planned.{WholeTape, mostJunctions, plannedMeans, tapeMachine, tapePlan, tapeSpans, wholeRefusal}
+use Rattle.tapeplan.specs.Planned.{WholeTape, mostJunctions, tapeMachine, tapePlan, tapeSpans, wholeRefusal}
 use Rattle.tapeplan.specs.Sheet.{measuredAt, measuredOf, sheetSize}
 use Rattle.tapeplan.specs.declared.Measured.{Measured}
 use Rattle.tapeplan.specs.declared.TapePlanned.{TapePlanned}
@@ -30,7 +29,7 @@ use Rattle.tapeplan.specs.declared.TapePlanned.the-variants.{Planned}
 use Rattle.tapeplan.proofs.Answered.{whole-passed}
 use Rattle.tapeplan.proofs.Plans.{accepted-ramps, accepted-records}
 use Rattle.tapeplan.proofs.Surveys.{cap-next}
-use Rattle.tapeplan.proofs.Wholes.{plan-front}
+use Rattle.tapeplan.proofs.Wholes.{planned-passed, planned-speeds}
 use Rattle.report.specs.Counts.{listFrom}
 use Rattle.report.specs.Figures.{figuresOf, lengthAt, peakAt}
 use Rattle.report.specs.Rows.{Countable, heldFrom, rowFigures, rowHeld, rowLength, rowPeak, rowsHeld}
@@ -128,21 +127,15 @@ module _ (s loaded sheet plan : List ℕ) (passed : wholeRefusal s loaded ≡ 0)
 
 -- The same of a tape that is planned, from the promise of planning it.
 module _ {s loaded sheet sheet′ before after : List ℕ} {r : TapePlanned} (w : WholeTape s loaded sheet sheet′ before after r) (is : r ≡ Planned) where
-  pub planned-passed : wholeRefusal s loaded ≡ 0
-  planned-passed = ap (λ (f : Fault). f .number) (sym (w .fault) ∙ ap plannedMeans is)
-
-  speeds : (k : ℕ) → k ≤ recordsIn s → numberAt after k ≡ numberAt (tapePlan s loaded) k
-  speeds = plan-front s loaded before planned-passed (w .list)
+  abbrev passed : wholeRefusal s loaded ≡ 0
+  passed = planned-passed w is
 
   pub planned-figures : rowFigures sheet′ after (recordsIn s) ≡ figuresOf s loaded
-  planned-figures = figures-are s loaded sheet′ after planned-passed (w .sheet-after .rows planned-passed) speeds
+  planned-figures = figures-are s loaded sheet′ after passed (w .sheet-after .rows passed) (planned-speeds w is)
 
   pub planned-held : listFrom (rowHeld sheet′ after) 0 (recordsIn s - 1) ≡ heldList s loaded
-  planned-held = list-are s loaded sheet′ after planned-passed (w .sheet-after .rows planned-passed) speeds
+  planned-held = list-are s loaded sheet′ after passed (w .sheet-after .rows passed) (planned-speeds w is)
 
   pub planned-countable : length sheet ≡ sheetSize → length before ≡ mostJunctions → Countable sheet′ after (recordsIn s)
   planned-countable size junctions =
-      rows-countable s loaded sheet′ after planned-passed (w .sheet-after .rows planned-passed) speeds (w .sheet-after .sized ∙ size) (w .sized ∙ junctions)
-
-  pub planned-few : recordsIn s ≤ mostBlocks
-  planned-few = accepted-records s (whole-passed s loaded planned-passed .0)
+      rows-countable s loaded sheet′ after passed (w .sheet-after .rows passed) (planned-speeds w is) (w .sheet-after .sized ∙ size) (w .sized ∙ junctions)

@@ -1,57 +1,29 @@
--- What a tape is answered, and what a report and a lent list hold then, by the answer. From the laws of the numbers on the display.
+-- What a tape is answered, and what a report holds then, by the answer. From the laws of the numbers on the display.
 use mathlib.Core.Path.{_≡_, sym, ap, _∙_}
 use mathlib.Core.Bool.{Bool, cond}
 use mathlib.Core.List.{List}
 use Prim.Native.Nat.{ℕ, _+_, _≤_, _<_}
 use native.Mathlib.Omega.{arith}
-use borrow.Author.Tests.{eq-eqb, ne-eqb, lt-ltb, le-ltb}
-use lib.Dec.{eqb, ltb}
-use lib.ListN.{length}
+use borrow.Author.Tests.{lt-ltb, le-ltb}
+use lib.Dec.{ltb}
 use Rattle.display.specs.Display.{Fault, given, refused, refusalNumber, _at_}
 use Rattle.display.specs.declared.Refusal.{Refusal}
 use Rattle.display.specs.declared.Refusal.the-variants as why
-use Rattle.display.proofs.Answers.{above-zero, at-zero, gives, refusal-above, refuses}
+use Rattle.display.proofs.Answers.{above-zero, at-zero, gives, refuses}
 use Rattle.tapeplan.specs.Planned.{wholeFault, wholeRefusal}
-use Rattle.tapeplan.specs.declared.TapePlanned.the-variants.{Planned, Refused}
 use Rattle.tape.proofs.Faults.{neither}
 use Rattle.tapeplan.proofs.Answered.{whole-faultless, whole-passed}
+use Rattle.tapeplan.proofs.Sized.{fault-above}
 use Rattle.report.specs.Figures.{figuredBy, figuresOf}
-use Rattle.report.specs.Held.{HeldTape, heldFault, heldList, innerIn}
 use Rattle.report.specs.Report.{Reported, addFault, allOf, mostTapes, reportNumbers, tapesIn, withFigures}
 use Rattle.report.specs.declared.Figures.{Figures}
 
--- a fault with the number of a refusal
-fault-above : (r : Refusal) (place : ℕ) {fault : Fault} → refusalNumber r at place ≡ fault → 0 < fault .number
-fault-above r place e = omega (arith, refusal-above r, ap (λ (f : Fault). f .number) e)
-
--- figures are refused by it, or given where there is none
+-- figures are refused by a fault, or given where there is none
 pub figured-refused : (fault : Fault) (f : Figures) (r : Refusal) (place : ℕ) → refusalNumber r at place ≡ fault → refused (refusalNumber r at place) ≡ figuredBy fault f
 figured-refused fault f r place e = refuses f fault (fault-above r place e) e
 
 pub figured-given : (fault : Fault) (f : Figures) {g : Figures} → fault .number ≡ 0 → g ≡ f → given g ≡ figuredBy fault f
 figured-given fault f e same = gives f fault e same
-
--- What held each junction, in a lent list.
-module _ (s loaded before : List ℕ) where
-  held-by-fault : (r : Refusal) (place : ℕ) → refusalNumber r at place ≡ heldFault s loaded (length before) → HeldTape s loaded before before (Refused r place)
-  held-by-fault r place e = record { fault = e; list = sym (above-zero (heldList s loaded) before (fault-above r place e)) }
-
-  pub held-refused : (r : Refusal) (place : ℕ) → refusalNumber r at place ≡ wholeFault s loaded → HeldTape s loaded before before (Refused r place)
-  unfolding heldFault
-  held-refused r place e = held-by-fault r place (e ∙ sym (above-zero _ (wholeFault s loaded) (fault-above r place e)))
-
-  -- of a tape that passes, the list's length decides
-  left-fault : wholeRefusal s loaded ≡ 0 → heldFault s loaded (length before) ≡ cond (eqb (length before) (innerIn s)) 0 11 at 0
-  unfolding heldFault
-  left-fault z = at-zero _ (wholeFault s loaded) z
-
-  pub held-short : wholeRefusal s loaded ≡ 0 → (length before ≡ innerIn s → ⊥) → HeldTape s loaded before before (Refused why.List 0)
-  held-short z h = held-by-fault why.List 0 (sym (left-fault z ∙ ap (λ (t : Bool). cond t 0 11 at 0) (ne-eqb (length before) (innerIn s) h)))
-
-  pub held-filled : {after : List ℕ} → wholeRefusal s loaded ≡ 0 → length before ≡ innerIn s → after ≡ heldList s loaded → HeldTape s loaded before after Planned
-  held-filled z h e =
-      let none : heldFault s loaded (length before) ≡ 0 at 0 = left-fault z ∙ ap (λ (t : Bool). cond t 0 11 at 0) (eq-eqb (length before) (innerIn s) h) in
-      record { fault = sym none; list = e ∙ sym (at-zero (heldList s loaded) before (ap (λ (f : Fault). f .number) none)) }
 
 -- One more tape of a report: refused after 100, else by its own checks.
 module _ (report s loaded : List ℕ) where

@@ -1,16 +1,13 @@
 -- What held each inner junction of a tape back: the feed or an axis, the corner, the chord rule, or the reach of the blocks around it. Inner
 -- junction i, counted from 0, lies between blocks i and i + 1 of the tape: it is junction i + 1 of the plan.
-use mathlib.Core.Path.{_≡_}
 use mathlib.Core.Bool.{Bool, not, _&&_, cond}
 use mathlib.Core.List.{List}
 use Prim.Native.Nat.{ℕ, suc, _-_}
 use lib.Dec.{eqb}
-use lib.ListN.{length}
-use Rattle.display.specs.Display.{Fault, byNumber, _at_, _else_}
 use Rattle.profile.specs.Line.{numberAt}
 use Rattle.machine.specs.Caps.{JunctionCaps, capIs, capsBetween, leastCap}
 use Rattle.tape.specs.Tape.{recordAt, recordsIn, tapeLimits}
-use Rattle.tapeplan.specs.Planned.{plannedMeans, tapePlan, wholeFault}
+use Rattle.tapeplan.specs.Planned.{FilledTape, tapePlan}
 use Rattle.tapeplan.specs.declared.TapePlanned.{TapePlanned}
 use Rattle.report.specs.Counts.{countTo, listFrom}
 
@@ -53,11 +50,6 @@ heldOf by s loaded count = countTo (λ i. by (capsAt s i) (speedAt s loaded i)) 
 abbrev pub heldList : (s loaded : List ℕ) → List ℕ
 heldList s loaded = listFrom (λ i. heldBy (capsAt s i) (speedAt s loaded i)) 0 (innerIn s)
 
--- the checks of the whole tape, then 11 where the lent list has not as many numbers as the tape has inner junctions
-unfoldable pub heldFault : (s loaded : List ℕ) (lent : ℕ) → Fault
-heldFault s loaded lent = wholeFault s loaded else (cond (eqb lent (innerIn s)) 0 11 at 0)
-
--- the answer's number and place, and the list: what holds each inner junction, or what it held
-pub record HeldTape (s loaded before after : List ℕ) (r : TapePlanned) : Type 0 where
-  pub fault : plannedMeans r ≡ heldFault s loaded (length before)
-  pub list : after ≡ byNumber (heldFault s loaded (length before) .number) (heldList s loaded) before
+-- a lent list of as many numbers as the tape has inner junctions, else 11, gets what holds each
+abbrev pub HeldTape : (s loaded before after : List ℕ) → TapePlanned → Type 0
+HeldTape s loaded before after r = FilledTape s loaded (innerIn s) (heldList s loaded) before after r

@@ -6,6 +6,7 @@ pub mod Filled
 pub mod LentLaws
 pub mod Plans
 pub mod Sheets
+pub mod Sized
 pub mod Surveys
 pub mod Wholes
 mod Cases

@@ -60,7 +60,7 @@ module _ (m : Machine) (s : List ℕ) where
       ∙ corner-from-numbers m (recordAt s k) b
 
   -- and the cap there, from the two blocks' caps and that corner
-  cap-is : (k : ℕ) {before : Block} {known : Numbers} → k < recordsIn s → (0 < k → Known before known k)
+  pub cap-is : (k : ℕ) {before : Block} {known : Numbers} → k < recordsIn s → (0 < k → Known before known k)
       → min (min (known .cap) (blockCap (m .limits) (recordAt s k))) (cornerAt m s k) ≡ capAt spans k
   unfolding cornerAt numbersOf
   cap-is zero h e = omega (arith, spans-first m (tapeBlocks s))

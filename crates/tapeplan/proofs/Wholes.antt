@@ -12,9 +12,10 @@ use Rattle.display.specs.Display.{Fault, _at_, byNumber}
 use Rattle.display.proofs.Answers.{at-zero, above-zero}
 use Rattle.tape.specs.Answers.{mostBlocks}
 use Rattle.tape.specs.Tape.{recordsIn}
-use Rattle.tapeplan.specs.Planned.{MeasuredTape, WholeTape, mostJunctions, planFault, tapeMachine, tapePlan, wholeFault, wholeRefusal}
+use Rattle.tapeplan.specs.Planned.{MeasuredTape, WholeTape, mostJunctions, planFault, plannedMeans, tapeMachine, tapePlan, wholeFault, wholeRefusal}
 use Rattle.tapeplan.specs.Sheet.{SheetAfter, over}
 use Rattle.tapeplan.specs.declared.TapePlanned.{TapePlanned}
+use Rattle.tapeplan.specs.declared.TapePlanned.the-variants.{Planned}
 use Rattle.tapeplan.proofs.Answered.{whole-faultless, whole-passed}
 use Rattle.tapeplan.proofs.Copies.{over-length}
 use Rattle.tapeplan.proofs.Plans.{accepted-junctions, accepted-records}
@@ -87,3 +88,14 @@ pub plan-front : (s loaded before : List ℕ) {after : List ℕ} → wholeRefusa
 plan-front s loaded before passed e k h =
     ap (λ (t : List ℕ). numberAt t k) (e ∙ at-zero (over (tapePlan s loaded) before) before passed)
     ∙ List·getD-append (tapePlan s loaded) (drop (length (tapePlan s loaded)) before) 0 k (omega (arith, accepted-junctions s loaded (whole-passed s loaded passed .0)))
+
+-- A tape that is planned so has passed its checks, its plan stands at the beginning, and it has no more records than any tape.
+module _ {s loaded sheet sheet′ before after : List ℕ} {r : TapePlanned} (w : WholeTape s loaded sheet sheet′ before after r) (is : r ≡ Planned) where
+  pub planned-passed : wholeRefusal s loaded ≡ 0
+  planned-passed = ap (λ (f : Fault). f .number) (sym (w .fault) ∙ ap plannedMeans is)
+
+  pub planned-speeds : (k : ℕ) → k ≤ recordsIn s → numberAt after k ≡ numberAt (tapePlan s loaded) k
+  planned-speeds = plan-front s loaded before planned-passed (w .list)
+
+  pub planned-few : recordsIn s ≤ mostBlocks
+  planned-few = accepted-records s (whole-passed s loaded planned-passed .0)

@@ -43,14 +43,23 @@ wholeRefusal s loaded = wholeFault s loaded .number
 abbrev pub wholePlace : (s loaded : List ℕ) → ℕ
 wholePlace s loaded = wholeFault s loaded .place
 
--- these checks, then 11 where the lent list is not exactly one longer than the blocks
+-- these checks, then 11 where a lent list has not exactly this size
+abbrev pub sizedFault : (s loaded : List ℕ) (size lent : ℕ) → Fault
+sizedFault s loaded size lent = wholeFault s loaded else (cond (eqb lent size) 0 11 at 0)
+
+-- that of the plan is exactly one longer than the blocks
 unfoldable pub planFault : (s loaded : List ℕ) (lent : ℕ) → Fault
-planFault s loaded lent = wholeFault s loaded else (cond (eqb lent (recordsIn s + 1)) 0 11 at 0)
+planFault s loaded lent = sizedFault s loaded (recordsIn s + 1) lent
 
 -- number and place of each answer
 abbrev pub plannedMeans : TapePlanned → Fault
 plannedMeans Planned = 0 at 0
 plannedMeans (Refused why place) = refusalNumber why at place
+
+-- a list of some size that is filled with what is made of a tape: the answer's number and place, and the list, or what it held
+pub record FilledTape (s loaded : List ℕ) (size : ℕ) (filling before after : List ℕ) (r : TapePlanned) : Type 0 where
+  pub fault : plannedMeans r ≡ sizedFault s loaded size (length before)
+  pub list : after ≡ byNumber (sizedFault s loaded size (length before) .number) filling before
 
 -- the answer's number and place, and the list: the plan from rest to rest, which no lawful profile is above anywhere, or
 -- what it held

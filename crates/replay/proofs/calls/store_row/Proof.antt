@@ -11,7 +11,7 @@ use Rattle.arith.proofs.SignedLaws.{field-back}
 use Rattle.fields.specs.Signed.{bitsOf}
 use Rattle.line.specs.Answers.{givenNumbers}
 use Rattle.replay.specs.Trace.{wordBits}
-use Rattle.replay.proofs.Rows.{stored-both}
+use Rattle.machine.proofs.Runs.{stored-both}
 use borrow.Author.Needs.{needs}
 use Rattle.replay.proofs.calls.store_row.Statement.{statement}
 use Rattle.replay.proofs.calls.store_row.Tie as tie

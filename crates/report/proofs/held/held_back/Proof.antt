@@ -7,8 +7,10 @@ use Rattle.tape.specs.Tape.{recordsIn}
 use Rattle.tapeplan.specs.Planned.{plannedMeans}
 use Rattle.report.specs.Counts.{listFrom}
 use Rattle.report.specs.Rows.{rowHeld}
-use Rattle.report.proofs.Accepted.{planned-few, planned-held, planned-passed}
-use Rattle.report.proofs.Answers.{held-filled, held-refused, held-short}
+use Rattle.tapeplan.proofs.Sized.{filled-refused, filled-unfit, filled-whole}
+use Rattle.tapeplan.proofs.Wholes.{planned-few, planned-passed}
+use Rattle.report.specs.Held.{heldList, innerIn}
+use Rattle.report.proofs.Accepted.{planned-held}
 use borrow.Author.Needs.{needs}
 use Rattle.report.proofs.held.held_back.Statement.{statement}
 use Rattle.report.proofs.held.held_back.Tie as tie
@@ -34,7 +36,7 @@ returns : tie.Need-returns
 returns c =
     let k = c .before in
     let a = start k .args in
-    held-short (tape k) (a .steps .now) (a .list .now) (planned-passed (planned k .plan-whole .ensures) (told k .enum-told .given .1)) (λ e. c .if1 .taken (e ∙ sym (inner k)))
+    filled-unfit (tape k) (a .steps .now) (innerIn (tape k)) (heldList (tape k) (a .steps .now)) (a .list .now) (planned-passed (planned k .plan-whole .ensures) (told k .enum-told .given .1)) (λ e. c .if1 .taken (e ∙ sym (inner k)))
 
 store-held-requires : tie.Need-store-held-requires
 store-held-requires c κs =
@@ -49,7 +51,7 @@ returns-2 c =
     let why = c .before .why .given in
     let p = c .before .before .before in
     let a = p .before .before .before .before .before .before .args in
-    held-refused (a .s .now) (a .steps .now) (a .list .now) (why .0 .0) (why .0 .1 .0) (sym (ap plannedMeans (why .1)) ∙ p .plan-whole .ensures .fault)
+    filled-refused (a .s .now) (a .steps .now) (innerIn (a .s .now)) (heldList (a .s .now) (a .steps .now)) (a .list .now) (why .0 .0) (why .0 .1 .0) (sym (ap plannedMeans (why .1)) ∙ p .plan-whole .ensures .fault)
 
 returns-3 : tie.Need-returns-3
 returns-3 c =
@@ -60,7 +62,7 @@ returns-3 c =
     let w = planned k .plan-whole .ensures in
     let is = told k .enum-told .given .1 in
     let size = left .if1 .left ∙ inner k in
-    held-filled (tape k) (a .steps .now) (a .list .now) (planned-passed w is) size (stored .store-held .ensures ∙ ap (listFrom (rowHeld (planned k .plan-whole .last .1 .1 .0) (planned k .plan-whole .last .1 .1 .1 .0)) 0) size ∙ planned-held w is)
+    filled-whole (tape k) (a .steps .now) (innerIn (tape k)) (heldList (tape k) (a .steps .now)) (a .list .now) (planned-passed w is) size (stored .store-held .ensures ∙ ap (listFrom (rowHeld (planned k .plan-whole .last .1 .1 .0) (planned k .plan-whole .last .1 .1 .1 .0)) 0) size ∙ planned-held w is)
 
 pub held-back-spec : {M : Type 1} → statement M
 held-back-spec =

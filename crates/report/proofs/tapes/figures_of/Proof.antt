@@ -3,7 +3,8 @@ use mathlib.Core.Path.{refl, sym, ap, subst, _∙_}
 use Rattle.tapeplan.specs.Planned.{plannedMeans, wholeFault}
 use Rattle.report.specs.Figures.{figuresOf, tapeFigures}
 use Rattle.report.specs.Rows.{Countable, rowFigures}
-use Rattle.report.proofs.Accepted.{planned-countable, planned-figures, planned-passed}
+use Rattle.tapeplan.proofs.Wholes.{planned-passed}
+use Rattle.report.proofs.Accepted.{planned-countable, planned-figures}
 use Rattle.report.proofs.Answers.{figured-given, figured-refused}
 use borrow.Author.Needs.{needs}
 use Rattle.report.proofs.tapes.figures_of.Statement.{statement}
