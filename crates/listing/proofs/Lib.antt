@@ -7,3 +7,4 @@ pub mod Lengths
 pub mod Parts
 pub mod TapeRows
 pub mod Whole
+mod Cases

@@ -30,9 +30,9 @@ returns c =
     stored .store-row .ensures
     ∙ (λ i. rowFrom (g .given-between .ensures i) (here .measured-at2 .ensures i .numbers .cap) (junction .cap-beside .ensures i))
     ∙ (λ i. rowFrom
-      (givenBetween (b .block-of .ensures i) (here .measured-at2 .ensures i .numbers) (numberAt (a .plan .now) k) (numberAt (a .plan .now) (k + 1)))
-      (row k .numbers .cap)
-      (min (min ((last .measured-at .ensures ∙ ap row (last .before .before2 .ensures)) i .numbers .cap) (here .measured-at2 .ensures i .numbers .cap)) (here .measured-at2 .ensures i .corner)))
+    (givenBetween (b .block-of .ensures i) (here .measured-at2 .ensures i .numbers) (numberAt (a .plan .now) k) (numberAt (a .plan .now) (k + 1)))
+    (row k .numbers .cap)
+    (min (min ((last .measured-at .ensures ∙ ap row (last .before .before2 .ensures)) i .numbers .cap) (here .measured-at2 .ensures i .numbers .cap)) (here .measured-at2 .ensures i .corner)))
 
 pub put-row-spec : {M : Type 1} → statement M
 put-row-spec =
