@@ -11,7 +11,8 @@ use crate::sys;
 /// A planner that holds up to [`PLACES`](crate::PLACES) blocks.
 ///
 /// It has its memory inside, 781 numbers (6,248 bytes), and no call but [`Planner::shown`] allocates.
-/// `Box::new` it where it is moved about. Every call needs under 1 kB of stack.
+/// Put it in a [`Box`] where it is moved about. A call needs under 1 kB of stack; [`Planner::fresh`] has
+/// the new planner there too, in a build without optimisation several times.
 ///
 /// Two planners are equal where their memory is, and then they answer all calls alike. A clone goes on
 /// by itself: it is a way to try blocks out.

@@ -7,8 +7,8 @@ mod common;
 use common::{block, joined, lines, planner, MACHINE};
 use fullerecru::{
     held_by, plan_tape, read_limits, read_record, replay, text_records, text_tape, write_limits,
-    write_tape, Answer, Block, Fault, Figures, Given, Host, Limits, Planner, Refusal, Report,
-    Steps, LIMITS_BYTES, RECORD_BYTES,
+    write_tape, Answer, Block, Fault, Figures, Given, HeldBy, Host, Limits, Planner, Refusal,
+    Report, Steps, LIMITS_BYTES, RECORD_BYTES,
 };
 
 /// Blocks held ahead.
@@ -213,7 +213,7 @@ fn tapes_reported() {
     let tape = write_tape(&MACHINE, &row()).unwrap();
     let mut part = vec![report_line(&mut report, &tape)];
     let held = held_by(&tape, &Steps::BuiltIn).unwrap();
-    let held: Vec<u64> = held.into_iter().map(|held| held.number()).collect();
+    let held: Vec<u64> = held.into_iter().map(HeldBy::number).collect();
     part.push(format!("held by {}", joined(&held)));
     let mut tape = write_tape(&MACHINE, &pair()).unwrap();
     part.push(report_line(&mut report, &tape));

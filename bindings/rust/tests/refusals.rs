@@ -10,140 +10,51 @@ use fullerecru::{
     PLACES, RECORD_BYTES,
 };
 
-/// A mark that no block has, in bytes that must stay.
+/// Fills bytes that must stay as they are.
 const UNTOUCHED: u8 = 0xA5;
 
-/// Blocks out of range with the refusal of each, and then one that several refusals hold for.
-fn faulty_blocks() -> [(Block, Refusal); 10] {
-    let fine = block(1_000, 0, 0);
-    [
-        (block(0, 0, 0), Refusal::Still),
-        (block(1_000_001, 0, 0), Refusal::Long),
-        (block(0, 0, i64::MIN), Refusal::Long),
-        (Block { feed: 0, ..fine }, Refusal::Feed),
-        (
-            Block {
-                feed: 1_000_001,
-                ..fine
-            },
-            Refusal::Feed,
-        ),
-        (
-            Block {
-                radius: 10_000_001,
-                ..fine
-            },
-            Refusal::Radius,
-        ),
-        (
-            Block {
-                mark: 2_097_152,
-                ..fine
-            },
-            Refusal::Mark,
-        ),
-        (
-            Block {
-                mark: u64::MAX,
-                ..fine
-            },
-            Refusal::Mark,
-        ),
-        (
-            Block {
-                feed: 0,
-                radius: u64::MAX,
-                ..fine
-            },
-            Refusal::Feed,
-        ),
-        (
-            Block {
-                y: i64::MAX,
-                feed: 0,
-                ..fine
-            },
-            Refusal::Long,
-        ),
-    ]
-}
+/// Moves, µm, feed, µm/s, radius, µm, and mark that are out of range, with the refusal; for the last
+/// two several hold, and the first in order is given.
+const FAULTY: [([i64; 3], u64, u64, u64, Refusal); 10] = [
+    ([0, 0, 0], 20_000, 0, 0, Refusal::Still),
+    ([1_000_001, 0, 0], 20_000, 0, 0, Refusal::Long),
+    ([0, 0, i64::MIN], 20_000, 0, 0, Refusal::Long),
+    ([1_000, 0, 0], 0, 0, 0, Refusal::Feed),
+    ([1_000, 0, 0], 1_000_001, 0, 0, Refusal::Feed),
+    ([1_000, 0, 0], 20_000, 10_000_001, 0, Refusal::Radius),
+    ([1_000, 0, 0], 20_000, 0, 2_097_152, Refusal::Mark),
+    ([1_000, 0, 0], 20_000, 0, u64::MAX, Refusal::Mark),
+    ([1_000, 0, 0], 0, u64::MAX, 0, Refusal::Feed),
+    ([0, i64::MAX, 0], 0, 0, u64::MAX, Refusal::Long),
+];
 
-/// Limits out of range, one for each field and end of its range.
-fn faulty_limits() -> [Limits; 18] {
-    [
-        Limits {
-            accel_x: 0,
-            ..MACHINE
-        },
-        Limits {
-            accel_x: 20_000_001,
-            ..MACHINE
-        },
-        Limits {
-            accel_y: 0,
-            ..MACHINE
-        },
-        Limits {
-            accel_y: 20_000_001,
-            ..MACHINE
-        },
-        Limits {
-            accel_z: 0,
-            ..MACHINE
-        },
-        Limits {
-            accel_z: 20_000_001,
-            ..MACHINE
-        },
-        Limits {
-            speed_x: 0,
-            ..MACHINE
-        },
-        Limits {
-            speed_x: 1_000_001,
-            ..MACHINE
-        },
-        Limits {
-            speed_y: 0,
-            ..MACHINE
-        },
-        Limits {
-            speed_y: 1_000_001,
-            ..MACHINE
-        },
-        Limits {
-            speed_z: 0,
-            ..MACHINE
-        },
-        Limits {
-            speed_z: 1_000_001,
-            ..MACHINE
-        },
-        Limits {
-            corner_jump: 0,
-            ..MACHINE
-        },
-        Limits {
-            corner_jump: 1_000_001,
-            ..MACHINE
-        },
-        Limits {
-            chord_tolerance: 0,
-            ..MACHINE
-        },
-        Limits {
-            chord_tolerance: 1_001,
-            ..MACHINE
-        },
-        Limits {
-            tick: 99,
-            ..MACHINE
-        },
-        Limits {
-            tick: 10_001,
-            ..MACHINE
-        },
-    ]
+/// Sets one of the limits.
+type Set = fn(&mut Limits, u64);
+
+/// Each of the limits with the numbers just below and just above its range.
+const OUTSIDE: [(Set, [u64; 2]); 9] = [
+    (|limits, number| limits.accel_x = number, [0, 20_000_001]),
+    (|limits, number| limits.accel_y = number, [0, 20_000_001]),
+    (|limits, number| limits.accel_z = number, [0, 20_000_001]),
+    (|limits, number| limits.speed_x = number, [0, 1_000_001]),
+    (|limits, number| limits.speed_y = number, [0, 1_000_001]),
+    (|limits, number| limits.speed_z = number, [0, 1_000_001]),
+    (|limits, number| limits.corner_jump = number, [0, 1_000_001]),
+    (|limits, number| limits.chord_tolerance = number, [0, 1_001]),
+    (|limits, number| limits.tick = number, [99, 10_001]),
+];
+
+/// Limits with one of them out of its range.
+fn faulty_limits() -> Vec<Limits> {
+    let sets = OUTSIDE
+        .iter()
+        .flat_map(|(set, numbers)| numbers.map(|number| (set, number)));
+    sets.map(|(set, number)| {
+        let mut limits = MACHINE;
+        set(&mut limits, number);
+        limits
+    })
+    .collect()
 }
 
 #[test]
@@ -172,7 +83,15 @@ fn by_1_limits() {
 #[test]
 fn by_2_to_6_the_block() {
     let mut planner = planner_with_pair();
-    for (faulty, refusal) in faulty_blocks() {
+    for ([x, y, z], feed, radius, mark, refusal) in FAULTY {
+        let faulty = Block {
+            x,
+            y,
+            z,
+            feed,
+            radius,
+            mark,
+        };
         let before = planner.clone();
         assert_eq!(planner.add(&faulty), Err(refusal));
         assert_eq!(planner, before);
