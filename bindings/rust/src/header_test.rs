@@ -219,12 +219,8 @@ fn declarations() -> BTreeMap<String, String> {
         .expect("the declarations")
         .1;
     let block = block.split_once("\n}").expect("a closed block").0;
-    let declared = block.split(';').map(|part| part.replace(['\n', ' '], ""));
-    // A type such as [u64; N] has a semicolon of its own, so the pieces are joined again.
-    let joined = declared
-        .collect::<Vec<_>>()
-        .join(";")
-        .replace(";fn", "\nfn");
+    // A line for each function, without spaces; types such as [u64; N] have semicolons too.
+    let joined = block.replace(['\n', ' '], "").replace(";fn", "\nfn");
     let lines = joined.lines().map(|line| line.trim_end_matches(';'));
     lines
         .map(|line| {

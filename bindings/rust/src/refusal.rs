@@ -186,8 +186,4 @@ impl fmt::Display for Fault {
     }
 }
 
-impl Error for Fault {
-    fn source(&self) -> Option<&(dyn Error + 'static)> {
-        Some(&self.refusal)
-    }
-}
+impl Error for Fault {}

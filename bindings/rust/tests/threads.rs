@@ -48,13 +48,13 @@ fn planners_on_several_threads() {
     });
 }
 
-/// Stack that the calls with the greatest need are told to be content with, in bytes, and what the
-/// thread and the binding use beside them.
+/// Bytes of stack that are enough for every call, as the header says, and that the thread and the
+/// binding have beside them.
 const STACK: usize = 280 * 1_000;
 const BESIDE: usize = 48 * 1_024;
 
 #[test]
-fn calls_are_content_with_their_stack() {
+fn calls_need_no_more_stack_than_the_header_says() {
     let run = || {
         let tape = bytes(TAPES[0]);
         plan_tape(&tape, &Steps::BuiltIn).unwrap();
