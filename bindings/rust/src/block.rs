@@ -68,7 +68,7 @@ pub struct Given {
     pub entry: u64,
     /// Squared speed where it ends, (µm/s)².
     pub exit: u64,
-    /// Its greatest squared speed, (µm/s)².
+    /// The greatest squared speed that it reaches, (µm/s)².
     pub peak: u64,
     /// Length run speeding up, µm.
     pub up: u64,
@@ -100,10 +100,11 @@ impl Given {
 pub struct Listed {
     /// The block with its speeds and ramp.
     pub given: Given,
-    /// The greatest squared speed in the block, (µm/s)².
+    /// The greatest squared speed that the block allows by its feed, the axes and the chord rule,
+    /// (µm/s)²; the peak is at most that.
     pub cap: u64,
-    /// The cap of the junction where the block begins, a squared speed, (µm/s)²; 0 for the first
-    /// block, since a tape begins at rest.
+    /// The greatest squared speed that the junction where the block begins allows, (µm/s)²; 0 for the
+    /// first block, since a tape begins at rest.
     pub junction_cap: u64,
 }
 
