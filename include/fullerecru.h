@@ -16,12 +16,12 @@
  * mm and mm/s.
  *
  * Answers: every function but fullerecru_version, fullerecru_word, fullerecru_told,
- * fullerecru_host_fresh, fullerecru_report_fresh and fullerecru_position returns 0 where the call is accepted, else the number of its refusal (see
- * below). Where several refusals hold, the one given is the first in the order that stands at the
- * function. A refused call changes nothing that was lent, but for the place that tells where a tape
- * or a text is at fault (fullerecru_plan_tape, fullerecru_list_tape, fullerecru_report_add,
- * fullerecru_held_by, fullerecru_text). Any numbers, doubles and bytes are answered: the ranges below are checked, not
- * required.
+ * fullerecru_host_fresh, fullerecru_report_fresh and fullerecru_position returns 0 where the call is
+ * accepted, else the number of its refusal (see below). Where several refusals hold, the one given is
+ * the first in the order that stands at the function. A refused call changes nothing that was lent, but
+ * for the place that tells where a tape or a text is at fault (fullerecru_plan_tape,
+ * fullerecru_list_tape, fullerecru_report_add, fullerecru_held_by, fullerecru_text). Any numbers,
+ * doubles and bytes are answered: the ranges below are checked, not required.
  *
  * What the model leaves open: the acceleration limits hold along each block; at a junction the
  * velocity may step by as much as the corner jump J, and short chords make many such steps. On a
@@ -132,7 +132,9 @@ enum fullerecru_limit {
  * radius, µm; mark; length, µm; acceleration, µm/s²; entry, exit and peak, squared speeds, (µm/s)²;
  * lengths run speeding up, at the peak and braking, µm. (planlist writes entry, peak, exit: here exit
  * comes before peak.) A record that is read has the first three. A row of a tape has two more: the
- * greatest squared speed in the block, and the cap of the junction where it begins, (µm/s)². */
+ * cap of the block, the greatest squared speed that its feed, the axes and the chord rule allow in it,
+ * and the cap of the junction where it begins, which also the corner and the block before it have a part
+ * in, (µm/s)². */
 enum fullerecru_given {
     FULLERECRU_GIVEN_FEED = 0,
     FULLERECRU_GIVEN_RADIUS = 1,
@@ -208,8 +210,8 @@ enum fullerecru_refusal {
     FULLERECRU_REFUSED_RAGGED = 9,
     /* tape longer than 32,792 bytes; a tape reported after 100 accepted; a text's block past 2,048 */
     FULLERECRU_REFUSED_MANY = 10,
-    /* lent list of speeds not exactly one longer than the blocks; a replay's list, or that of what
-     * held a tape's junctions, not of its size */
+    /* lent list of speeds not exactly one longer than the blocks; a replay's list, a tape's, or that
+     * of what held a tape's junctions, not of its size */
     FULLERECRU_REFUSED_LIST = 11,
     /* in a text, any character but a space outside a word, or a word that is not listed or stands
      * on its line already */
@@ -294,11 +296,11 @@ uint64_t fullerecru_add(uint64_t memory[FULLERECRU_NUMBERS], int64_t x, int64_t 
  * committed one: every later plan begins with it.
  *
  * moves: X, Y, Z, µm. numbers: enum fullerecru_given, the first eleven. The lengths run speeding
- * up, at the peak and braking are the ramp, and add up to the length. The length is rounded down to whole µm. The
- * lengths of speeding up and of braking go to the nearest µm, an exact half down for speeding up and
- * up for braking; the part at the peak is what they leave of the length. So they are off what the
- * squared speeds say by at most half a µm, and the part at the peak by less than 1 µm. A servo loop
- * interpolates from entry, peak, exit and acceleration (see above).
+ * up, at the peak and braking are the ramp, and add up to the length. The length is rounded down to
+ * whole µm. The lengths of speeding up and of braking go to the nearest µm, an exact half down for
+ * speeding up and up for braking; the part at the peak is what they leave of the length. So they are
+ * off what the squared speeds say by at most half a µm, and the part at the peak by less than 1 µm. A
+ * servo loop interpolates from entry, peak, exit and acceleration ("Between ticks" above).
  *
  * Refuses by 8. Accepted, it writes the memory, moves and numbers. */
 uint64_t fullerecru_take(uint64_t memory[FULLERECRU_NUMBERS], int64_t moves[FULLERECRU_MOVES],
@@ -372,9 +374,9 @@ uint64_t fullerecru_list_tape(const uint8_t *tape, size_t count, const uint8_t *
 /* A report says what held tapes back, over up to 100 accepted tapes: eight numbers that the caller
  * keeps from call to call and that these functions alone write. The first is how many tapes were
  * accepted; the others are the figures of all of them, in the order of a tape's (enum
- * fullerecru_figure); the greatest peak is 0 without blocks. Each inner junction counts once, so the four add
- * up to the inner junctions. From a fresh report on no sum is cut; any numbers are answered, and then
- * sums are taken modulo 2^64.
+ * fullerecru_figure); the greatest peak is 0 without blocks. Each inner junction counts once, so the
+ * four add up to the inner junctions. From a fresh report on no sum is cut; any numbers are answered,
+ * and then sums are taken modulo 2^64.
  *
  * Makes a fresh report: no tape was accepted. The memory need not be initialised. */
 void fullerecru_report_fresh(uint64_t report[FULLERECRU_REPORT]);

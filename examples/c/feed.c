@@ -1,8 +1,9 @@
 /* Feeds a planner as a control does: holds a few blocks ahead, takes the first one when it needs
- * it, and hands its ramp to the servo loop, here one line of print. Then writes a tape of two
- * blocks, reads it back and plans it, reports what held that tape and another back, replays a trace of
- * four calls with motors that have torque steps of their own, makes a tape of a program in RS-274 text,
- * and carries out the orders of a host in doubles. Every function of the header is called.
+ * it, and hands its ramp to the servo loop, here one line of print (servo.c has such a loop). Then
+ * writes a tape of two blocks, reads it back, plans it and lists it, reports what held that tape and
+ * another back, replays a trace of four calls with motors that have torque steps of their own, makes a
+ * tape of a program in RS-274 text, and carries out the orders of a host in doubles. Every function of
+ * the header is called.
  *
  *     cc -std=c99 -Iinclude examples/c/feed.c target/staticlib/libfullerecru.a -o target/feed
  */
@@ -43,12 +44,14 @@ static void take_and_print(uint64_t memory[FULLERECRU_NUMBERS])
         printf("take refused by %" PRIu64 "\n", refused);
         return;
     }
-    printf("mark %" PRIu64 " move %" PRId64 " %" PRId64 " %" PRId64, numbers[2], moves[0], moves[1],
-           moves[2]);
-    printf(" length %" PRIu64 " accel %" PRIu64, numbers[3], numbers[4]);
-    printf(" entry %" PRIu64 " peak %" PRIu64 " exit %" PRIu64, numbers[5], numbers[7], numbers[6]);
-    printf(" up %" PRIu64 " cruise %" PRIu64 " down %" PRIu64 "\n", numbers[8], numbers[9],
-           numbers[10]);
+    printf("mark %" PRIu64 " move %" PRId64 " %" PRId64 " %" PRId64, numbers[FULLERECRU_GIVEN_MARK],
+           moves[0], moves[1], moves[2]);
+    printf(" length %" PRIu64 " accel %" PRIu64, numbers[FULLERECRU_GIVEN_LENGTH],
+           numbers[FULLERECRU_GIVEN_ACCEL]);
+    printf(" entry %" PRIu64 " peak %" PRIu64 " exit %" PRIu64, numbers[FULLERECRU_GIVEN_ENTRY],
+           numbers[FULLERECRU_GIVEN_PEAK], numbers[FULLERECRU_GIVEN_EXIT]);
+    printf(" up %" PRIu64 " cruise %" PRIu64 " down %" PRIu64 "\n", numbers[FULLERECRU_GIVEN_UP],
+           numbers[FULLERECRU_GIVEN_CRUISE], numbers[FULLERECRU_GIVEN_DOWN]);
 }
 
 /* Prints a name and the numbers of a list on one line. */
@@ -164,6 +167,31 @@ static void run_tape(void)
     plan_tape(tape, count);
     memset(tape + count - FULLERECRU_RECORD_BYTES, 0, FULLERECRU_RECORD_BYTES);
     plan_tape(tape, count);
+}
+
+/* Lists the pair's tape: a line for each block, with its cap and that of the junction where it begins;
+ * then with room for one block only, which is refused. */
+static void run_list(void)
+{
+    enum { PAIR = 2 };
+    uint8_t tape[FULLERECRU_MOST_TAPE];
+    uint64_t rows[PAIR * FULLERECRU_LISTED], place[1];
+    size_t count = write_pair(tape);
+    if (fullerecru_list_tape(tape, count, FULLERECRU_BUILT_IN, rows, PAIR * FULLERECRU_LISTED,
+                             place) != FULLERECRU_ACCEPTED) {
+        return;
+    }
+    for (size_t k = 0; k < PAIR; k++) {
+        const uint64_t *row = rows + FULLERECRU_LISTED * k;
+        printf("listed mark %" PRIu64 " peak %" PRIu64, row[FULLERECRU_GIVEN_MARK],
+               row[FULLERECRU_GIVEN_PEAK]);
+        printf(" cap %" PRIu64 " junction cap %" PRIu64 "\n", row[FULLERECRU_LISTED_CAP],
+               row[FULLERECRU_LISTED_JUNCTION_CAP]);
+    }
+    uint64_t refused = fullerecru_list_tape(tape, count, FULLERECRU_BUILT_IN, rows,
+                                            FULLERECRU_LISTED, place);
+    printf("listed with too little room: refused by %" PRIu64 ", %s\n", refused,
+           fullerecru_word(refused));
 }
 
 /* Writes a tape of the machine's limits and the row. Returns how many bytes it has, or 0 where one of
@@ -319,8 +347,13 @@ static void run_orders(void)
 
 int main(void)
 {
+    if (fullerecru_version() != FULLERECRU_VERSION) {
+        printf("the library is not that of this header, %s\n", FULLERECRU_VERSION_TEXT);
+        return 1;
+    }
     run_row();
     run_tape();
+    run_list();
     run_report();
     run_trace();
     run_text();
