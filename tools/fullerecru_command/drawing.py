@@ -224,7 +224,8 @@ def axis_legend(figure):
 
 def draw(figure, run, limits, title):
     """The whole picture."""
-    figure.text(0.03, 0.988, title, fontsize=11, fontweight="bold", va="top")
+    plain = title.replace("$", r"\$")  # a dollar would begin a formula
+    figure.text(0.03, 0.988, plain, fontsize=11, fontweight="bold", va="top")
     figure.text(0.03, 0.970, summary(run), fontsize=9, va="top")
     speed_legend(figure, run)
     upper = figure.add_gridspec(2, 1, left=0.085, right=0.985, top=0.91, bottom=0.51, hspace=0.28)

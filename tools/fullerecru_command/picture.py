@@ -70,7 +70,8 @@ def run(arguments):
         return elsewhere(arguments)
     from . import drawing  # needs matplotlib
 
-    title = arguments.title or os.path.basename(arguments.tape)
+    named = arguments.title or os.path.basename(arguments.tape)
+    title = "".join(one if one.isprintable() else "?" for one in named)
     if arguments.out is None:
         drawing.show(tape, limits, title)
     else:
