@@ -17,7 +17,7 @@ LIMITS = fullerecru.Limits(*[200_000] * 3, *[1_000_000] * 3, 2_000, 1, 2_000)
 
 
 def tape_of(*blocks):
-    return fullerecru.write_limits(LIMITS) + b"".join(map(fullerecru.write_record, blocks))
+    return fullerecru.write_tape(LIMITS, blocks)
 
 
 class Ramps(unittest.TestCase):
@@ -70,13 +70,10 @@ class Ramps(unittest.TestCase):
     def test_causes(self):
         # docs/RULES.md, section 8, example 8: feed, corner, three times chord, reach
         run = ramps.run_of(WHAT_HELD.read_bytes())
-        held = [cause for phase in run.phases for cause in [phase.cause]]
+        held = [phase.cause for phase in run.phases]
         runs = [cause for k, cause in enumerate(held) if k == 0 or held[k - 1] is not cause]
         expected = [None, HeldBy.FEED, HeldBy.CORNER, HeldBy.CHORD, HeldBy.REACH, None]
-        self.assertEqual([cause for cause in runs if cause in expected], runs)
-        self.assertEqual((runs[0], runs[-1]), (None, None))
-        self.assertIn(HeldBy.CHORD, runs)
-        self.assertIn(HeldBy.CORNER, runs)
+        self.assertEqual(runs, expected)
 
     def test_chord_or_feed_at_the_peak(self):
         # radius 1 caps at 1,000 \u00b5m/s; radius 1,000 allows more than the feed (RULES, example 4)

@@ -18,8 +18,7 @@ class Tables(InFolder):
             fullerecru.Block(-1_000_000, 1, -1, 1, 10_000_000, 2_097_151),
             fullerecru.Block(0, 0, 999_999, 1_000_000, 1, 0),
         ]
-        limits = fullerecru.read_limits(POCKET.read_bytes())
-        tape = fullerecru.write_limits(limits) + b"".join(map(fullerecru.write_record, blocks))
+        tape = fullerecru.write_tape(fullerecru.read_limits(POCKET.read_bytes()), blocks)
         table = self.made("tape", "--back", self.file("edges.tape", tape))
         self.assertIn(b"-1000,0.001,-0.001,0.001,10000,2097151\n", table)
         self.assertEqual(self.made("tape", POCKET, self.file("t.csv", table)), tape)

@@ -13,7 +13,18 @@ from ._lent import Bytes, Steps
 from ._library import function as _function
 from .planner import Host, Planner
 from .refusals import HeldBy, Refusal, Refused
-from .sizes import VERSION, VERSION_TEXT
+from .sizes import (
+    CALL_BYTES,
+    LIMITS_BYTES,
+    MOST_BLOCKS,
+    MOST_TAPE,
+    MOST_TAPES,
+    PLACES,
+    RECORD_BYTES,
+    STEPS,
+    VERSION,
+    VERSION_TEXT,
+)
 from .tapes import (
     Answer,
     Replayed,
@@ -27,6 +38,7 @@ from .tapes import (
     text,
     write_limits,
     write_record,
+    write_tape,
 )
 from .values import Block, Figures, Given, Limits, Listed
 
@@ -35,17 +47,25 @@ __all__ = [
     "Answer",
     "Block",
     "Bytes",
+    "CALL_BYTES",
     "Figures",
     "Given",
     "HeldBy",
     "Host",
+    "LIMITS_BYTES",
     "Limits",
     "Listed",
+    "MOST_BLOCKS",
+    "MOST_TAPE",
+    "MOST_TAPES",
+    "PLACES",
     "Planner",
+    "RECORD_BYTES",
     "Refusal",
     "Refused",
     "Replayed",
     "Report",
+    "STEPS",
     "Steps",
     "VERSION",
     "VERSION_TEXT",
@@ -60,6 +80,7 @@ __all__ = [
     "version",
     "write_limits",
     "write_record",
+    "write_tape",
 ]
 
 

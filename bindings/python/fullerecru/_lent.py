@@ -3,7 +3,8 @@ from __future__ import annotations
 
 import ctypes
 import operator
-from typing import Any, Iterable, List, Sequence, Union
+from collections.abc import Sequence
+from typing import Any, Iterable, List, Union
 
 from . import _library
 from .refusals import Refusal, Refused
@@ -11,7 +12,7 @@ from .sizes import POINT
 from .values import Block, Limits
 
 Bytes = Union[bytes, bytearray, memoryview]
-Steps = Union[Bytes, Sequence[int]]
+Steps = Union[Bytes, "Sequence[int]"]
 
 LIMIT_FIELDS = tuple(Limits.__dataclass_fields__)
 MOVE_FIELDS = ("x", "y", "z")
@@ -68,7 +69,7 @@ def data(name: str, value: Any) -> bytes:
 
 def steps_data(value: Any) -> bytes:
     """The bytes of torque steps: a bytes-like object, or a list of percents."""
-    if isinstance(value, (list, tuple)):
+    if isinstance(value, Sequence) and not isinstance(value, (str, bytes, bytearray, memoryview)):
         bound = 1 << _BYTE_BITS
         return bytes(_whole(f"torque step {k}", step, 0, bound) for k, step in enumerate(value))
     return data("steps", value)

@@ -2,12 +2,12 @@
 from __future__ import annotations
 
 from dataclasses import dataclass
-from typing import Any, List, Optional, Tuple, Union
+from typing import Any, List, Optional, Sequence, Tuple, Union
 
 from . import _lent
 from ._library import function
 from .planner import given_of
-from .refusals import HeldBy, Refusal
+from .refusals import HeldBy, Refusal, Refused
 from .sizes import (
     CALL_BYTES,
     FIGURES,
@@ -53,6 +53,19 @@ def write_record(block: Block) -> bytes:
     room = _lent.room(RECORD_BYTES)
     _lent.accept(function("write_record")(*_lent.block_numbers(block), room, RECORD_BYTES))
     return room.raw
+
+
+def write_tape(limits: Limits, blocks: Sequence[Block]) -> bytes:
+    """A tape of up to 2,048 blocks. Refuses by 10, 1, then by the first block at fault, with its place."""
+    if len(blocks) > MOST_BLOCKS:
+        raise Refused(Refusal.MANY)
+    tape = [write_limits(limits)]
+    for place, block in enumerate(blocks, 1):
+        try:
+            tape.append(write_record(block))
+        except Refused as refused:
+            raise Refused(refused.refusal, place) from None
+    return b"".join(tape)
 
 
 def _blocks(tape: bytes) -> int:

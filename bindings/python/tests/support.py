@@ -20,7 +20,7 @@ ALONG_Y = Block(0, 1_000, 0, 20_000, 0, 8)
 
 def tape_of(*blocks: Block, limits: Limits = MACHINE) -> bytes:
     """A tape of these blocks."""
-    return fullerecru.write_limits(limits) + b"".join(map(fullerecru.write_record, blocks))
+    return fullerecru.write_tape(limits, blocks)
 
 
 def listing_line(given: Given) -> str:

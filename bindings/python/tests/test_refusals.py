@@ -71,6 +71,7 @@ class Refusals(unittest.TestCase):
         self.assertEqual(len(fullerecru.list_tape(longest)), sizes.MOST_BLOCKS)
         for call in (fullerecru.plan_tape, fullerecru.list_tape, fullerecru.held_by, Report().add):
             self.refused(Refusal.MANY, call, longest + bytes(16))
+        self.refused(Refusal.MANY, fullerecru.write_tape, MACHINE, [ALONG_X] * 2_049)
         lines = "F60\n" + "X1\nX0\n" * 1_025
         self.refused(Refusal.MANY, fullerecru.text, lines, place=2_050)
         report, pair = Report(), tape_of(ALONG_X, ALONG_Y)
@@ -111,6 +112,8 @@ class Refusals(unittest.TestCase):
         for call in (fullerecru.plan_tape, fullerecru.list_tape, fullerecru.held_by, report.add):
             self.refused(Refusal.STILL, call, spoiled, place=3)
         self.assertEqual(bytes(report._numbers), before)
+        blocks = [ALONG_X, replace(ALONG_Y, feed=1_000_001)]
+        self.refused(Refusal.FEED, fullerecru.write_tape, MACHINE, blocks, place=2)
 
     def test_orders(self):
         planner, host = Planner(MACHINE), Host()
@@ -156,6 +159,7 @@ class Numbers(unittest.TestCase):
             Planner(MACHINE, [100] * 7 + [256])
         with self.assertRaisesRegex(TypeError, "torque step 0"):
             Planner(MACHINE, [0.5] * 8)
+        self.assertEqual(Planner(MACHINE, range(50, 42, -1)).told(), 0)
         for steps in ("eight", 8, None):
             with self.assertRaisesRegex(TypeError, "steps"):
                 Planner(MACHINE, steps)
