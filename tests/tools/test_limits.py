@@ -1,19 +1,20 @@
 """`limits`: a text of nine values to 24 bytes, and back."""
 import unittest
 
-import fullerecru
 from support import MACHINE, TAPES, InFolder
+import fullerecru
+from fullerecru_command import limits
 
 GOOD = """\
 # a machine
-acceleration-x = 5 m/s\u00b2
+acceleration-x = 5 m/s²
 acceleration-y = 5000 mm/s2
 acceleration-z = 3000000 um/s2   # weaker
 speed-x = 0.5 m/s
 speed-y=500mm/s
 speed-z = 15000 mm/min
 
-corner-jump = 10000 \u00b5m/s
+corner-jump = 10000 µm/s
 chord-tolerance = 0.002 mm
 tick = 4 ms
 """
@@ -22,10 +23,15 @@ tick = 4 ms
 class Limits(InFolder):
     def test_units(self):
         made = self.made("limits", self.file("good", GOOD))
-        limits = fullerecru.Limits(5_000_000, 5_000_000, 3_000_000, 500_000, 500_000, 250_000, 10_000, 2, 4_000)
-        self.assertEqual(made, fullerecru.write_limits(limits))
+        accels, speeds = (5_000_000, 5_000_000, 3_000_000), (500_000, 500_000, 250_000)
+        machine = fullerecru.Limits(*accels, *speeds, 10_000, 2, 4_000)
+        self.assertEqual(made, fullerecru.write_limits(machine))
         greek = GOOD.replace("\u00b5", "\u03bc")
         self.assertEqual(self.made("limits", self.file("greek", greek)), made)
+
+    def test_names(self):
+        told = [field for field, _ in limits.NAMES.values()]
+        self.assertEqual(told, list(fullerecru.Limits.__dataclass_fields__))
 
     def test_machine_m(self):
         # docs/BENCH.md, "The paths"
@@ -40,7 +46,7 @@ class Limits(InFolder):
         odd = fullerecru.Limits(1, 20_000_000, 1_234_567, 1, 999_999, 123_450, 7, 1_000, 101)
         data = fullerecru.write_limits(odd)
         text = self.made("limits", "--back", self.file("odd", data))
-        self.assertIn("acceleration-x = 0.001 mm/s\u00b2\n", text.decode())
+        self.assertIn("acceleration-x = 0.001 mm/s²\n", text.decode())
         self.assertIn("speed-z = 123.45 mm/s\n", text.decode())
         self.assertEqual(self.made("limits", self.file("text", text)), data)
 
@@ -55,14 +61,14 @@ class Faults(InFolder):
         faults = [
             ("tick = 4 ms", "tack = 4 ms", 11, "unknown name 'tack'"),
             ("speed-y=500mm/s", "speed-x = 1 mm/s", 6, "speed-x stands on line 5 already"),
-            ("tick = 4 ms", "tick = 4 mm", 11, "mm, but it needs one of \u00b5s, ms"),
+            ("tick = 4 ms", "tick = 4 mm", 11, "mm, but it needs one of µs, ms"),
             ("tick = 4 ms", "tick = 4", 11, "no unit"),
             ("tick = 4 ms", "tick = ms", 11, "is no number"),
             ("tick = 4 ms", "tick = four ms", 11, "is no number"),
             ("tick = 4 ms", "tick = 4e3 us", 11, "is no number"),
             ("tick = 4 ms", "tick 4 ms", 11, "not of the form"),
-            ("15000 mm/min", "1 mm/min", 7, "not a whole number of \u00b5m/s"),
-            ("0.002 mm", "0.0025 mm", 10, "not a whole number of \u00b5m"),
+            ("15000 mm/min", "1 mm/min", 7, "not a whole number of µm/s"),
+            ("0.002 mm", "0.0025 mm", 10, "not a whole number of µm"),
         ]
         for old, new, line, why in faults:
             said = self.said(old, new)

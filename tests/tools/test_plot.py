@@ -5,10 +5,10 @@ import re
 import resource
 import unittest
 
+from support import MACHINE, POCKET, ROOT, TAPES, InFolder, command
 import fullerecru
 from fullerecru import Block, HeldBy
 from fullerecru_command import picture, ramps
-from support import MACHINE, POCKET, PROGRAMS, ROOT, TAPES, InFolder, command
 
 RIGHT_ANGLE = ROOT / "examples" / "tapes" / "right-angle.tape"
 WHAT_HELD = ROOT / "examples" / "tapes" / "what-held.tape"
@@ -25,7 +25,7 @@ class Ramps(unittest.TestCase):
 
     def test_pair_by_hand(self):
         # docs/RULES.md, section 8, example 3: each block between rest and sqrt(2,000,000) with the
-        # peak sqrt(201,000,000) and 200,000 \u00b5m/s\u00b2, up 502.5 \u00b5m and down 497.5 \u00b5m, no cruise
+        # peak sqrt(201,000,000) and 200,000 µm/s², up 502.5 µm and down 497.5 µm, no cruise
         run = ramps.run_of(RIGHT_ANGLE.read_bytes())
         peak, corner = math.sqrt(201e6), math.sqrt(2e6)
         self.assertAlmostEqual(run.time, 2 * (peak + peak - corner) / 200_000, places=12)
@@ -36,8 +36,8 @@ class Ramps(unittest.TestCase):
         self.assertEqual((first.accel, second.accel), (200_000, -200_000))
 
     def test_cruise_by_hand(self):
-        # 10,000 \u00b5m from rest to rest at 20,000 \u00b5m/s and 200,000 \u00b5m/s\u00b2: 0.1 s and 1,000 \u00b5m for each ramp,
-        # and 8,000 \u00b5m at 20,000 \u00b5m/s
+        # 10,000 µm from rest to rest at 20,000 µm/s and 200,000 µm/s²: 0.1 s and 1,000 µm for each ramp,
+        # and 8,000 µm at 20,000 µm/s
         run = ramps.run_of(tape_of(Block(10_000, 0, 0, 20_000)))
         self.assertAlmostEqual(run.time, 0.1 + 0.4 + 0.1, places=12)
         self.assertEqual([phase.cause for phase in run.phases], [None, HeldBy.FEED, None])
@@ -76,7 +76,7 @@ class Ramps(unittest.TestCase):
         self.assertEqual(runs, expected)
 
     def test_chord_or_feed_at_the_peak(self):
-        # radius 1 caps at 1,000 \u00b5m/s; radius 1,000 allows more than the feed (RULES, example 4)
+        # radius 1 caps at 1,000 µm/s; radius 1,000 allows more than the feed (RULES, example 4)
         for radius, cause in ((1, HeldBy.CHORD), (1_000, HeldBy.FEED), (0, HeldBy.FEED)):
             run = ramps.run_of(tape_of(Block(10_000, 0, 0, 20_000, radius)))
             self.assertEqual(run.phases[1].cause, cause)
@@ -116,7 +116,7 @@ class Drawn(InFolder):
         # planreport's figures of the tape: 1 feed, 1 corner, 3 chord, 1 reach of 6 inner junctions
         shares = "feed 16.7 %, corner 16.7 %, chord 50.0 %, reach 16.7 %"
         self.assertRegex(svg, rf">7 blocks, 3\.210 mm in 0\.\d+ s; of 6 inner junctions held by {shares}<")
-        for words in ("way along the path, mm", "time, s", "speed, mm/s", "X, m/s\u00b2", "torque steps"):
+        for words in ("way along the path, mm", "time, s", "speed, mm/s", "X, m/s²", "torque steps"):
             self.assertIn(words, svg)
         for cause in picture.CAUSE_NAMES.values():
             self.assertIn(f">{cause}<", svg)

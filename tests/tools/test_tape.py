@@ -2,8 +2,8 @@
 import subprocess
 import unittest
 
-import fullerecru
 from support import MACHINE, POCKET, PROGRAMS, ROOT, TAPES, InFolder
+import fullerecru
 
 
 class Tables(InFolder):
@@ -57,8 +57,8 @@ class TableFaults(InFolder):
             ("1,0,0,0,,", "refused by 4 (feed)"),
             ("1,0,0,20,10000.001,", "refused by 5 (radius)"),
             ("1,0,0,20,,2097152", "refused by 6 (mark)"),
-            ("1.0005,0,0,20,,", "x: 1.0005 is not a whole number of \u00b5m"),
-            ("1,0,0,20.0001,,", "feed: 20.0001 is not a whole number of \u00b5m/s"),
+            ("1.0005,0,0,20,,", "x: 1.0005 is not a whole number of µm"),
+            ("1,0,0,20.0001,,", "feed: 20.0001 is not a whole number of µm/s"),
             ("1,0,0,20,,1.5", "mark: 1.5 is not a whole number"),
             ("1,,0,20,,", "y: '' is no number"),
             ("1,0,one,20,,", "z: 'one' is no number"),

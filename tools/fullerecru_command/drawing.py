@@ -17,7 +17,7 @@ from fullerecru import HeldBy
 from . import files
 from .picture import CAUSE_NAMES, summary
 
-# Colours that stay apart for the colour-blind (Okabe and Ito); None is the begin and the end at rest.
+# Colours that stay apart for the colour-blind (Okabe and Ito); None is from rest and to rest.
 COLOURS = {
     HeldBy.FEED: "#0072B2",
     HeldBy.CORNER: "#D55E00",
@@ -45,15 +45,15 @@ STYLE = {
 }
 UNDATED = {"svg": {"Date": None, "Creator": None}, "pdf": {"CreationDate": None}, "png": {}}
 
-MILLI = 1e-3  # mm of \u00b5m
+MILLI = 1e-3  # mm of µm
 PIECES = 24  # of a ramp over the path from rest to the greatest speed
 ROOM = 1.12  # of the field above what it must hold
-SEEN = 2.5  # a limit of so many times the greatest speed at most is in the field
+SEEN = 2.5  # a cap or limit of at most so many times the greatest value is in the field
 MOST_MARKS = 100  # up to so many inner junctions each has a mark
 
 
 def speed(squared):
-    """mm/s of (\u00b5m/s)\u00b2."""
+    """mm/s of (µm/s)²."""
     return math.sqrt(squared) * MILLI
 
 
@@ -140,7 +140,7 @@ def draw_speed(axes, run, over, label):
 
 
 def axis_points(run, axis, quantity):
-    """Points (s, value) of an axis' speed, mm/s, or acceleration, m/s\u00b2; at a junction both jump."""
+    """Times, s, and values of an axis' speed, mm/s, or acceleration, m/s²; at a junction both jump."""
     times, values = [], []
     for phase in run.phases:
         given = run.rows[phase.block].given
@@ -172,7 +172,7 @@ def draw_axis(axes, points, limit, unit):
     axes.axhline(0, color=INK, linewidth=0.5)
     axes.set(ylim=(-top, top))
     where = "" if inside else ", beyond the field"
-    axes.set_title(f"limit \u00b1{limit:g} {unit}{where}", loc="right", fontsize=8, pad=2)
+    axes.set_title(f"limit ±{limit:g} {unit}{where}", loc="right", fontsize=8, pad=2)
 
 
 def draw_axes(figure, grid, run, limits):
@@ -181,7 +181,7 @@ def draw_axes(figure, grid, run, limits):
     for row, axis in enumerate("xyz"):
         pairs = (
             ("speed", getattr(limits, f"speed_{axis}") * MILLI, "mm/s"),
-            ("acceleration", getattr(limits, f"accel_{axis}") * MILLI * MILLI, "m/s\u00b2"),
+            ("acceleration", getattr(limits, f"accel_{axis}") * MILLI * MILLI, "m/s²"),
         )
         for column, (quantity, limit, unit) in enumerate(pairs):
             axes = figure.add_subplot(grid[row, column], sharex=first)
@@ -219,7 +219,8 @@ def axis_legend(figure):
     words = ("beyond the limit that the tape has for the axis (at high speed the motors may give less "
              "than this acceleration: torque steps)")
     figure.legend(handles=[Patch(color=GROUND, label=words)], loc="lower left", frameon=False,
-                  bbox_to_anchor=(0.03, 0.004), fontsize=8.5, handlelength=1.4, borderpad=0, borderaxespad=0)
+                  bbox_to_anchor=(0.03, 0.004), fontsize=8.5, handlelength=1.4, borderpad=0,
+                  borderaxespad=0)
 
 
 def draw(figure, run, limits, title):
@@ -260,7 +261,7 @@ def show(run, limits, title):
 
     styled()
     figure = pyplot.figure(figsize=SIZE)
-    if matplotlib.get_backend().lower() in (name.lower() for name in matplotlib.rcsetup.non_interactive_bk):
+    if figure.canvas.required_interactive_framework is None:
         raise files.Fault("no window can be opened here: name a file by -o")
     draw(figure, run, limits, title)
     pyplot.show()

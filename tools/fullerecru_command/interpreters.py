@@ -6,6 +6,7 @@ import sys
 
 PACKAGE = "python3-matplotlib"
 DISTRIBUTION = "/usr/bin/python3"
+SCRIPT = os.path.join(os.path.dirname(os.path.dirname(os.path.abspath(__file__))), "fullerecru")
 PASSED_ON = "FULLERECRU_PASSED_ON"  # set where the command runs in another interpreter
 UNFIT = 69  # exit status of an interpreter that lacks matplotlib, or is too old
 NOT_STARTED = (126, 127)  # exit statuses of a name that starts no interpreter
@@ -33,7 +34,8 @@ def candidates():
             names = sorted(os.listdir(folder))
         except OSError:
             continue
-        named += [os.path.join(folder, name) for name in names if re.fullmatch(r"python3(\.\d+)?", name)]
+        fit = (name for name in names if re.fullmatch(r"python3(\.\d+)?", name))
+        named += [os.path.join(folder, name) for name in fit]
     for path in dict.fromkeys(named):
         if path != sys.executable and os.access(path, os.X_OK):
             yield path
@@ -41,12 +43,14 @@ def candidates():
 
 def pass_on(words):
     """The exit status of the command in the first interpreter that is fit; None where none is."""
-    environment = {**os.environ, PASSED_ON: "1"}
+    environment = dict(os.environ)
+    environment[PASSED_ON] = "1"
     for path in candidates():
         try:
-            status = subprocess.call([path, sys.argv[0], *words], env=environment)
+            done = subprocess.run([path, SCRIPT] + words, env=environment, stderr=subprocess.PIPE)
         except OSError:
             continue
-        if status != UNFIT and status not in NOT_STARTED:
-            return status
+        if done.returncode != UNFIT and done.returncode not in NOT_STARTED:
+            sys.stderr.write(done.stderr.decode(errors="backslashreplace"))
+            return done.returncode
     return None

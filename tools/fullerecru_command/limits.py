@@ -1,6 +1,7 @@
 """A machine's limits as a text of nine named values with units, and as the 24 bytes of a tape."""
+import io
 import re
-from dataclasses import fields, replace
+from dataclasses import replace
 from fractions import Fraction
 
 from fullerecru import Limits, Refused, read_limits, sizes, write_limits
@@ -35,7 +36,7 @@ def plain(unit):
 
 def shown(unit):
     """A plain unit as it is written: µm/s² of um/s2."""
-    return unit.replace("um", "\u00b5m").replace("us", "\u00b5s").replace("s2", "s\u00b2")
+    return unit.replace("um", "µm").replace("us", "µs").replace("s2", "s²")
 
 
 def value_of(where, line):
@@ -71,7 +72,7 @@ def judge(where, name, value, line):
 
 def parse(name, text):
     """The limits of a text."""
-    found, lines = {}, text.splitlines()
+    found, lines = {}, io.StringIO(text, newline=None).readlines()
     for number, whole_line in enumerate(lines, 1):
         line = whole_line.split("#")[0].strip()
         if not line:
@@ -138,6 +139,3 @@ def run(arguments):
         return
     limits = parse(arguments.file, files.as_text(arguments.file, data))
     files.write(arguments.out, write_limits(limits))
-
-
-assert {field for field, _ in NAMES.values()} == {field.name for field in fields(Limits)}

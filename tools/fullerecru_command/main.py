@@ -8,13 +8,13 @@ from . import files, limits, moves, picture, texts
 LIMITS_HELP = """\
 A text of limits has a line `name = value unit` for each of the nine, and comments behind #:
 
-    acceleration-x = 200 mm/s2    (and -y, -z)   \u00b5m/s\u00b2 um/s2 mm/s2 m/s2
-    speed-x = 1 m/s               (and -y, -z)   \u00b5m/s um/s mm/s m/s mm/min
+    acceleration-x = 200 mm/s2    (and -y, -z)   µm/s² um/s2 mm/s2 m/s2
+    speed-x = 1 m/s               (and -y, -z)   µm/s um/s mm/s m/s mm/min
     corner-jump = 2 mm/s                         the same
-    chord-tolerance = 1 um                       \u00b5m um mm
-    tick = 2 ms                                  \u00b5s us ms
+    chord-tolerance = 1 um                       µm um mm
+    tick = 2 ms                                  µs us ms
 
-Values are exact and come to a whole number of \u00b5m/s\u00b2, \u00b5m/s, \u00b5m, \u00b5s.
+Values are exact and come to a whole number of µm/s², µm/s, µm, µs.
 
 example: tools/fullerecru limits examples/limits/machine-m.limits -o machine.bin
          tools/fullerecru limits --back examples/tapes/right-angle.tape
@@ -63,7 +63,9 @@ def parser():
     one.add_argument("file", metavar="FILE")
     one.add_argument("--back", action="store_true", help="FILE has 24 bytes of limits: to a text")
     one = sub_parser(commands, "tape", "a table of moves to a tape, and back", TAPE_HELP)
-    one.usage = "fullerecru tape [-h] [-o OUT] LIMITS MOVES.csv\n       fullerecru tape [-h] [-o OUT] --back TAPE"
+    one.usage = "\n       ".join(
+        ("%(prog)s [-h] [-o OUT] LIMITS MOVES.csv", "%(prog)s [-h] [-o OUT] --back TAPE")
+    )
     one.add_argument("files", nargs="+", metavar="FILE", help="LIMITS and MOVES.csv, or TAPE")
     one.add_argument("--back", action="store_true", help="a tape to a table")
     one = sub_parser(commands, "text", "a program in RS-274 text to a tape", TEXT_HELP)

@@ -9,7 +9,7 @@ from . import files, limits, numerals
 NEEDED = ("x", "y", "z", "feed")
 OPTIONAL = ("radius", "mark")
 COLUMNS = NEEDED + OPTIONAL
-BASE = {"feed": "\u00b5m/s", "mark": "1"}  # what a column counts; the others count µm
+BASE = {"feed": "µm/s", "mark": "1"}  # what a column counts; the others count µm
 
 
 def columns(name, header):
@@ -41,7 +41,7 @@ def block_of(where, names, values, place):
             continue
         size = 1 if column == "mark" else numerals.THOUSAND
         try:
-            numbers[column] = numerals.whole(value, size, BASE.get(column, "\u00b5m"))
+            numbers[column] = numerals.whole(value, size, BASE.get(column, "µm"))
         except numerals.Unfit as unfit:
             raise files.Fault(f"{where}: {column}: {unfit}") from None
     return Block(**numbers)

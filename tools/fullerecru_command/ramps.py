@@ -1,6 +1,6 @@
 """A tape's plan as phases of steady acceleration: where, when and how fast each begins and ends.
 
-Lengths are in \u00b5m, speeds in \u00b5m/s, times in s. Along a block the squared speed is the least of entry +
+Lengths are in µm, speeds in µm/s, times in s. Along a block the squared speed is the least of entry +
 2 * a * s, peak, and exit + 2 * a * (length - s), and each axis has move / length of the path's speed
 (include/fullerecru.h, "Between ticks"). Caps, squared speeds and causes come from the library.
 """
@@ -40,7 +40,7 @@ class Run:
 
     @property
     def length(self):
-        """The length of its path, \u00b5m."""
+        """The length of its path, µm."""
         return sum(row.given.length for row in self.rows)
 
 
@@ -69,7 +69,7 @@ def phase_causes(rows, causes, caps):
 
     Speeding up begins at the speed of the junction behind, braking ends at that of the junction ahead:
     what held these holds the phase. At the peak it is the block's own cap; a peak below it lies between
-    the two ramps, and what is run there is a rest below 1 \u00b5m.
+    the two ramps, and what is run there is a rest below 1 µm.
     """
     around = [None, *causes, None]
     for k, row in enumerate(rows):
