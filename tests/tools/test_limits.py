@@ -94,7 +94,8 @@ class Faults(InFolder):
     def test_missing(self):
         said = self.said("tick = 4 ms\n", "")
         self.assertIn("bad.limits:10: the text ends without tick", said)
-        self.assertIn("empty:1: the text ends without acc", self.fault("limits", self.file("empty", "")))
+        said = self.fault("limits", self.file("empty", ""))
+        self.assertIn("empty:1: the text ends without acceleration-x, ", said)
 
     def test_files(self):
         self.assertIn("No such file", self.fault("limits", self.folder / "none"))

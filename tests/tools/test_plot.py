@@ -4,6 +4,7 @@ import os
 import re
 import resource
 import unittest
+from xml.etree import ElementTree
 
 from support import MACHINE, POCKET, ROOT, TAPES, InFolder, command
 import fullerecru
@@ -36,8 +37,8 @@ class Ramps(unittest.TestCase):
         self.assertEqual((first.accel, second.accel), (200_000, -200_000))
 
     def test_cruise_by_hand(self):
-        # 10,000 µm from rest to rest at 20,000 µm/s and 200,000 µm/s²: 0.1 s and 1,000 µm for each ramp,
-        # and 8,000 µm at 20,000 µm/s
+        # 10,000 µm from rest to rest at 20,000 µm/s and 200,000 µm/s²: 0.1 s and 1,000 µm for each
+        # ramp, and 8,000 µm at 20,000 µm/s
         run = ramps.run_of(tape_of(Block(10_000, 0, 0, 20_000)))
         self.assertAlmostEqual(run.time, 0.1 + 0.4 + 0.1, places=12)
         self.assertEqual([phase.cause for phase in run.phases], [None, HeldBy.FEED, None])
@@ -115,7 +116,9 @@ class Drawn(InFolder):
         self.assertIn(">what-held.tape<", svg)
         # planreport's figures of the tape: 1 feed, 1 corner, 3 chord, 1 reach of 6 inner junctions
         shares = "feed 16.7 %, corner 16.7 %, chord 50.0 %, reach 16.7 %"
-        self.assertRegex(svg, rf">7 blocks, 3\.210 mm in 0\.\d+ s; of 6 inner junctions held by {shares}<")
+        begin = r">7 blocks, 3\.210 mm in 0\.\d+ s; of 6 inner junctions held by "
+        self.assertRegex(svg, begin + shares + "<")
+        self.assertTrue(ElementTree.fromstring(svg).tag.endswith("svg"))
         for words in ("way along the path, mm", "time, s", "speed, mm/s", "X, m/s²", "torque steps"):
             self.assertIn(words, svg)
         for cause in picture.CAUSE_NAMES.values():

@@ -260,7 +260,10 @@ def show(run, limits, title):
     from matplotlib import pyplot
 
     styled()
-    figure = pyplot.figure(figsize=SIZE)
+    try:
+        figure = pyplot.figure(figsize=SIZE)
+    except Exception as error:  # each toolkit for windows has its own
+        raise files.Fault(f"no window can be opened here: name a file by -o ({error})") from None
     if figure.canvas.required_interactive_framework is None:
         raise files.Fault("no window can be opened here: name a file by -o")
     draw(figure, run, limits, title)

@@ -12,7 +12,7 @@ from .sizes import POINT
 from .values import Block, Limits
 
 Bytes = Union[bytes, bytearray, memoryview]
-Steps = Union[Bytes, "Sequence[int]"]
+Steps = Union[Bytes, Sequence[int]]
 
 LIMIT_FIELDS = tuple(Limits.__dataclass_fields__)
 MOVE_FIELDS = ("x", "y", "z")

@@ -56,7 +56,7 @@ def write_record(block: Block) -> bytes:
 
 
 def write_tape(limits: Limits, blocks: Sequence[Block]) -> bytes:
-    """A tape of up to 2,048 blocks. Refuses by 10, 1, then by the first block at fault, with its place."""
+    """A tape of up to 2,048 blocks. Refuses by 10, 1, then by the first block at fault (2 to 6)."""
     if len(blocks) > MOST_BLOCKS:
         raise Refused(Refusal.MANY)
     tape = [write_limits(limits)]

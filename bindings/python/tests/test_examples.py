@@ -1,7 +1,6 @@
 """The example in C once more: what its program writes, this module says too."""
 import unittest
 
-import support
 from support import ALONG_X, ALONG_Y, MACHINE, ROOT, tape_of
 from fullerecru import Block, Host, Planner, Refused, Report
 import fullerecru

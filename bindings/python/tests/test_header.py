@@ -109,7 +109,8 @@ class Functions(unittest.TestCase):
     def test_signatures(self):
         text = re.sub(r"static inline .*?\n\}\n", "", bare(HEADER), flags=re.S)
         found = {}
-        for answer, name, inside in re.findall(r"(uint64_t|void) fullerecru_(\w+)\((.*?)\);", text, re.S):
+        declared = re.findall(r"(uint64_t|void) fullerecru_(\w+)\((.*?)\);", text, flags=re.S)
+        for answer, name, inside in declared:
             inside = " ".join(inside.split())
             parameters = [] if inside == "void" else [kind(one) for one in inside.split(",")]
             found[name] = (KINDS.get(answer), parameters)

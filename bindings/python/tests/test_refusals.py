@@ -1,10 +1,10 @@
-"""Each refusal is provoked, and leaves what it was lent as it was; bad numbers never reach the library."""
+"""Each refusal is provoked and leaves what it was lent as it was; bad numbers are told before."""
 import array
 import unittest
 from dataclasses import replace
 
 from support import ALONG_X, ALONG_Y, MACHINE, tape_of
-from fullerecru import Block, Host, Limits, Planner, Refusal, Refused, Report
+from fullerecru import Host, Planner, Refusal, Refused, Report
 from fullerecru import _lent, _library, sizes
 import fullerecru
 
