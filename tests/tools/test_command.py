@@ -89,6 +89,13 @@ class Outputs(InFolder):
         self.assertEqual(status, 1)
         self.assertIn("No such file or directory", said)
 
+    def test_full_device(self):
+        with open("/dev/full", "wb") as full:
+            done = subprocess.run([sys.executable, COMMAND, "limits", MACHINE], stdout=full,
+                                  stderr=subprocess.PIPE)
+        said = b"fullerecru: standard output: No space left on device\n"
+        self.assertEqual((done.returncode, done.stderr), (1, said))
+
     def test_closed_pipe(self):
         reader, writer = os.pipe()
         os.close(reader)

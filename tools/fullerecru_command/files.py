@@ -49,10 +49,22 @@ def write(out, data):
     if out is None:
         if sys.stdout.isatty() and not is_text(data):
             raise Fault("these bytes are not for a terminal: name a file by -o")
-        sys.stdout.buffer.write(data)
-        sys.stdout.buffer.flush()
+        write_standard(data)
         return
     write_whole(out, lambda file: file.write(data))
+
+
+def write_standard(data):
+    """Writes bytes to standard output; a reader who has gone is no fault of the input."""
+    try:
+        sys.stdout.buffer.write(data)
+        sys.stdout.buffer.flush()
+    except OSError as error:
+        # what could not be written is not tried again when the process ends
+        os.dup2(os.open(os.devnull, os.O_WRONLY), sys.stdout.fileno())
+        if isinstance(error, BrokenPipeError):
+            raise
+        raise Fault(f"standard output: {error.strerror or error}") from None
 
 
 def is_text(data):

@@ -1,6 +1,5 @@
 """The command line of tools/fullerecru."""
 import argparse
-import os
 import sys
 
 from . import files, limits, moves, picture, texts
@@ -101,5 +100,4 @@ def main(words):
         print(f"fullerecru: {fault}", file=sys.stderr)
         return 1
     except BrokenPipeError:
-        os.dup2(os.open(os.devnull, os.O_WRONLY), sys.stdout.fileno())
         return 1
