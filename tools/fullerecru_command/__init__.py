@@ -1,0 +1,1 @@
+"""What tools/fullerecru does, over the module of bindings/python."""
