@@ -53,8 +53,8 @@ _MEANINGS = {
         "tape longer than 32,792 bytes; a tape reported after 100 accepted; a text's block past 2,048"
     ),
     Refusal.LIST: (
-        "lent list of speeds not exactly one longer than the blocks; a replay's list, or that of what "
-        "held a tape's junctions, not of its size"
+        "lent list of speeds not exactly one longer than the blocks; a replay's list, a tape's, or "
+        "that of what held a tape's junctions, not of its size"
     ),
     Refusal.WORD: (
         "in a text, any character but a space outside a word, or a word that is not listed or stands "
