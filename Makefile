@@ -16,7 +16,7 @@ SHARED = libfullerecru.so.$(VERSION)
 SONAME = libfullerecru.so.$(SO_VERSION)
 LINKS = $(LIB)/$(SONAME) $(LIB)/libfullerecru.so
 
-#: lib        the static and the shared library, in target/lib (5 min; 1 s where nothing changed)
+#: lib        the static and the shared library, in target/lib (4 min; 1 s where nothing changed)
 lib:
 	@tools/needs 'make lib' bash rt cc ld
 	@tools/archive fullerecru
@@ -47,7 +47,7 @@ export PREFIX DESTDIR TAPE PICTURED
 #: install    header, libraries and fullerecru.pc below PREFIX=/usr/local, in DESTDIR= (1 s behind make lib)
 install:
 	@tools/needs 'make install' bash
-	@tools/archive --check fullerecru && $(MAKE) -q $(LIB)/$(SHARED) || $(MAKE) --no-print-directory lib
+	@tools/archive --check fullerecru && $(MAKE) -q --no-print-directory $(LIB)/$(SHARED) || $(MAKE) --no-print-directory lib
 	@tools/install
 
 #: uninstall  removes what make install put there (1 s)
@@ -55,7 +55,7 @@ uninstall:
 	@tools/needs 'make uninstall' bash
 	@tools/install --remove
 
-#: run        lists the tape TAPE=examples/tapes/mould-row.tape (4 min the first time, then 1 s)
+#: run        lists the tape TAPE=examples/tapes/mould-row.tape (3 min the first time, then 1 s)
 run:
 	@tools/needs 'make run' bash rt
 	@tools/list "$$TAPE"
