@@ -39,7 +39,8 @@ PREFIX ?= /usr/local
 DESTDIR ?=
 TAPE = examples/tapes/mould-row.tape
 PICTURED = examples/tapes/mould-row.tape
-export PREFIX DESTDIR TAPE PICTURED
+TITLE = Two rows over a mould: 325 blocks, most of them chords of 0.25 to 0.33 mm
+export PREFIX DESTDIR TAPE PICTURED TITLE
 
 # The library is made where it is not that of the sources; where it is, none of the tools that make it
 # need be there.
@@ -78,11 +79,11 @@ contracts:
 	@tools/needs 'make contracts' bash
 	@tools/whole docs/CONTRACTS.txt tools/contracts
 
-#: picture    docs/plan.svg, the speeds of the plan of PICTURED=, drawn again (1 s behind make lib)
+#: picture    docs/plan.svg, the plan of the tape PICTURED= under TITLE=, drawn again (5 s behind make lib)
 picture:
 	@tools/needs 'make picture' bash rt cc ld python3
 	@$(MAKE) --no-print-directory lib
-	@tools/whole docs/plan.svg tools/fullerecru plot "$$PICTURED" -o {}
+	@tools/whole docs/plan.svg tools/fullerecru plot "$$PICTURED" --title "$$TITLE" -o {}
 
 # a program of the independent implementation
 REFERENCE = env CARGO_TARGET_DIR=$(CURDIR)/target/reference cargo run --quiet --release --offline \
