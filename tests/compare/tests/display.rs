@@ -7,7 +7,7 @@
 
 use std::collections::BTreeSet;
 
-use compare::library::{FIGURES, HOST, NUMBERS, PLAN, POINT, REPORT, ROW};
+use compare::library::{FIGURES, HOST, LISTED, NUMBERS, PLAN, POINT, REPORT, ROW};
 use compare::proved::{self, Host, Planner, Report};
 use compare::{first_seed, report, seeds, Trying};
 use reference::generate::{block, limits, machine_m, steps, straight_steps};
@@ -96,6 +96,14 @@ fn held_number(bytes: &[u8], steps: &[u8], junctions: usize) -> (u64, u64) {
     }
 }
 
+/// The number and the place of a tape under steps, listed in so many numbers.
+fn list_number(bytes: &[u8], steps: &[u8], numbers: usize) -> (u64, u64) {
+    match proved::list_tape(bytes, steps, &mut vec![77; numbers]) {
+        Ok(()) => (0, 0),
+        Err(fault) => (fault.refusal.number(), fault.place),
+    }
+}
+
 /// The number and the place of a text whose records go into a list of a length.
 fn text_number(text: &[u8], room: usize) -> (u64, u64) {
     match proved::text_records(text, &mut vec![77; room]) {
@@ -112,9 +120,9 @@ fn trace_numbers(bytes: &[u8], steps: &[u8], numbers: usize, junctions: usize) -
 }
 
 /// The numbers that the functions which take limits give, with steps where they
-/// take these too: fresh, a writer, a reader, a tape planned, reported and told
-/// what held it, and a trace.
-fn limits_numbers(limits: &Limits, steps: &[u8]) -> [u64; 7] {
+/// take these too: fresh, a writer, a reader, a tape planned, reported, told what
+/// held it and listed, and a trace.
+fn limits_numbers(limits: &Limits, steps: &[u8]) -> [u64; 8] {
     let bytes = pack_limits(limits, 0);
     [
         number(Planner::fresh(limits, steps)),
@@ -123,6 +131,7 @@ fn limits_numbers(limits: &Limits, steps: &[u8]) -> [u64; 7] {
         tape_number(&bytes, steps, 1).0,
         report_number(0, &bytes, steps).0,
         held_number(&bytes, steps, 0).0,
+        list_number(&bytes, steps, 0).0,
         trace_numbers(&bytes, steps, 0, PLAN).0,
     ]
 }
@@ -139,8 +148,8 @@ fn each_limit_is_accepted_at_its_ends_and_refused_beyond() {
                 let (mut limits, steps) = (limits(&mut rng), steps(&mut rng));
                 *field(&mut limits) = value;
                 let numbers = limits_numbers(&limits, &steps);
-                assert_eq!(numbers, [expected; 7], "{limits:?} {steps:?}");
-                count += 7;
+                assert_eq!(numbers, [expected; 8], "{limits:?} {steps:?}");
+                count += 8;
             }
         }
     }
@@ -148,9 +157,9 @@ fn each_limit_is_accepted_at_its_ends_and_refused_beyond() {
 }
 
 /// The number that a block gives to an add, a writer and a trace; and to a
-/// reader and a tape planned, reported and told what held it, which have no mark
-/// that is too large.
-fn block_numbers(block: &Block, steps: &[u8]) -> ([u64; 3], Option<[u64; 4]>) {
+/// reader and a tape planned, reported, told what held it and listed, which have
+/// no mark that is too large.
+fn block_numbers(block: &Block, steps: &[u8]) -> ([u64; 3], Option<[u64; 5]>) {
     let mut planner = Planner::fresh(&machine_m(), steps).expect("steps that pass");
     let record = pack_record(block);
     let tape = [pack_limits(&machine_m(), 0), record.clone()].concat();
@@ -165,11 +174,12 @@ fn block_numbers(block: &Block, steps: &[u8]) -> ([u64; 3], Option<[u64; 4]>) {
     let others = [
         report_number(99, &tape, steps),
         held_number(&tape, steps, 0),
+        list_number(&tape, steps, LISTED),
     ];
-    assert_eq!(others, [(of_tape, place); 2], "{block:?}");
-    let [reported, held] = others.map(|(number, _)| number);
+    assert_eq!(others, [(of_tape, place); 3], "{block:?}");
+    let [reported, held, listed] = others.map(|(number, _)| number);
     let read = number(proved::read_record(&record));
-    let on_tape = [read, of_tape, reported, held];
+    let on_tape = [read, of_tape, reported, held, listed];
     (numbers, (block.mark < 1 << 21).then_some(on_tape))
 }
 
@@ -186,9 +196,9 @@ fn each_field_is_accepted_at_its_ends_and_refused_beyond() {
                 set(&mut block, value);
                 let (numbers, on_tape) = block_numbers(&block, &steps(&mut rng));
                 assert_eq!(numbers, [expected; 3], "{block:?}");
-                let on_tape = on_tape.unwrap_or([expected; 4]);
-                assert_eq!(on_tape, [expected; 4], "{block:?}");
-                count += 7;
+                let on_tape = on_tape.unwrap_or([expected; 5]);
+                assert_eq!(on_tape, [expected; 5], "{block:?}");
+                count += 8;
             }
         }
         let still = Block {
@@ -196,7 +206,7 @@ fn each_field_is_accepted_at_its_ends_and_refused_beyond() {
             ..block(&mut rng)
         };
         let numbers = block_numbers(&still, &steps(&mut rng));
-        assert_eq!(numbers, ([2; 3], Some([2; 4])), "{still:?}");
+        assert_eq!(numbers, ([2; 3], Some([2; 5])), "{still:?}");
     }
     report(count, "fields at their ends");
 }
