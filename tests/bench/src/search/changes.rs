@@ -1,0 +1,127 @@
+//! Small changes of a case.
+
+use reference::generate::{block, limits, steps};
+use reference::line::PLACES;
+use reference::machine::{range, Block, Limits};
+use reference::rng::Rng;
+
+use super::case::{Case, MOST};
+
+impl Case {
+    /// A case that is this one but for one to four changes.
+    pub fn changed(&self, rng: &mut Rng) -> Case {
+        let mut case = self.clone();
+        for _ in 0..rng.within(1, 4) {
+            case.change(rng);
+        }
+        case
+    }
+
+    fn change(&mut self, rng: &mut Rng) {
+        match rng.below(16) {
+            0 => self.window = rng.spread(1, PLACES as u64) as usize,
+            1 => self.steps = steps(rng),
+            2 => self.limits = limits(rng),
+            3..=5 => change_limit(rng, &mut self.limits),
+            6 => self.change_count(rng),
+            7 | 8 => self.level(rng),
+            9 => {
+                let place = self.place(rng);
+                self.blocks[place] = plain(block(rng));
+            }
+            10 => {
+                let feed = rng.spread(*range::FEED.start(), *range::FEED.end());
+                self.blocks.iter_mut().for_each(|block| block.feed = feed);
+            }
+            _ => {
+                let place = self.place(rng);
+                change_block(rng, &mut self.blocks[place]);
+            }
+        }
+    }
+
+    /// A place among the blocks: the last, which is the add's own, the next to
+    /// it, or any.
+    fn place(&self, rng: &mut Rng) -> usize {
+        let last = self.blocks.len() - 1;
+        match rng.below(4) {
+            0 | 1 => last,
+            2 => last.saturating_sub(1),
+            _ => rng.below(last as u64 + 1) as usize,
+        }
+    }
+
+    /// More or fewer blocks: a first one again, or without it.
+    fn change_count(&mut self, rng: &mut Rng) {
+        for _ in 0..rng.within(1, 20) {
+            if rng.once_in(2) && self.blocks.len() > 1 {
+                self.blocks.remove(0);
+            } else if self.blocks.len() < MOST {
+                self.blocks.insert(0, self.blocks[0]);
+            }
+        }
+    }
+
+    /// A stretch of blocks becomes like one of them.
+    fn level(&mut self, rng: &mut Rng) {
+        let [a, b] = [(); 2].map(|_| rng.below(self.blocks.len() as u64) as usize);
+        let (from, to) = (a.min(b), a.max(b));
+        let like = self.blocks[rng.within(from as u64, to as u64) as usize];
+        self.blocks[from..=to].fill(like);
+    }
+}
+
+/// A block without its mark, which nothing hangs on.
+fn plain(block: Block) -> Block {
+    Block { mark: 0, ..block }
+}
+
+/// Another value of one limit.
+fn change_limit(rng: &mut Rng, limits: &mut Limits) {
+    let axis = rng.below(3) as usize;
+    let (field, within) = match rng.below(5) {
+        0 => (&mut limits.accel[axis], range::ACCEL),
+        1 => (&mut limits.speed[axis], range::SPEED),
+        2 => (&mut limits.jump, range::JUMP),
+        3 => (&mut limits.chord, range::CHORD),
+        _ => (&mut limits.tick, range::TICK),
+    };
+    *field = rng.spread(*within.start(), *within.end());
+}
+
+/// Another value of one field of a block, which stays one that moves.
+fn change_block(rng: &mut Rng, block: &mut Block) {
+    let axis = rng.below(3) as usize;
+    let size = *range::MOVE.end();
+    match rng.below(6) {
+        0 => block.feed = rng.spread(*range::FEED.start(), *range::FEED.end()),
+        1 => block.radius = rng.spread(*range::RADIUS.start(), *range::RADIUS.end()),
+        2 => block.moves[axis] = -block.moves[axis],
+        3 => block.moves[axis] = (block.moves[axis] + rng.signed(3)).clamp(-size, size),
+        _ => block.moves[axis] = rng.spread(0, size as u64) as i64,
+    }
+    if block.moves == [0; 3] {
+        block.moves[axis] = 1;
+    }
+}
+
+#[cfg(test)]
+mod tests {
+    use super::*;
+    use reference::machine::{check_block, check_limits, read_steps};
+
+    /// However often a case is changed, all that it has passes its checks.
+    #[test]
+    fn changed_cases_pass() {
+        let mut rng = Rng::new(2);
+        let mut case = Case::drawn(&mut rng);
+        for _ in 0..5_000 {
+            case = case.changed(&mut rng);
+            assert_eq!(check_limits(&case.limits), Ok(()));
+            assert!(read_steps(&case.steps).is_ok());
+            assert!(case.blocks.iter().all(|block| check_block(block).is_ok()));
+            assert!((1..=MOST).contains(&case.blocks.len()));
+            assert!((1..=PLACES).contains(&case.window));
+        }
+    }
+}
