@@ -52,9 +52,9 @@ const STEPS: [(&str, Path); 4] = [
 ];
 const SIDES: [(&str, Side); 2] = [("proved", Side::Proved), ("reference", Side::Reference)];
 
-/// Without arguments the whole table; `search GENERATIONS` that part of it, longer
-/// or shorter. For callgrind `count WORK PATH SIDE` runs that once, and `cases` the
-/// cases of the search on standard input.
+/// Without arguments the whole table; `search GENERATIONS SEED` that part of it, as
+/// long as wanted. For callgrind `count WORK PATH SIDE` runs that once, and `cases`
+/// the cases of the search on standard input.
 fn main() -> ExitCode {
     let arguments: Vec<String> = env::args().skip(1).collect();
     match arguments.iter().map(String::as_str).collect::<Vec<_>>()[..] {
@@ -62,7 +62,8 @@ fn main() -> ExitCode {
         ["count", work, path, side] => {
             let works = [&WORKS[..], &TEXTS, &[ORDER, REPORT], &growth::HELD].concat();
             let (work, side) = (named(&works, work), named(&SIDES, side));
-            let mut ready = Ready::new(work, side, named(paths(work), path), work.counted());
+            let paths = [paths(work), &[growth::RANDOM]].concat();
+            let mut ready = Ready::new(work, side, named(&paths, path), work.counted());
             println!("{}", ready.run());
             ExitCode::SUCCESS
         }
@@ -70,9 +71,9 @@ fn main() -> ExitCode {
             search::run_cases(&mut io::stdin().lock());
             ExitCode::SUCCESS
         }
-        ["search", generations] => match generations.parse() {
-            Ok(generations) => status(search::report(generations)),
-            Err(_) => usage(),
+        ["search", generations, seed] => match (generations.parse(), seed.parse()) {
+            (Ok(generations), Ok(seed)) => status(search::report(generations, seed)),
+            _ => usage(),
         },
         _ => usage(),
     }
@@ -80,7 +81,7 @@ fn main() -> ExitCode {
 
 fn usage() -> ExitCode {
     eprintln!(
-        "bench | bench search GENERATIONS | bench cases\n\
+        "bench | bench search GENERATIONS SEED | bench cases\n\
          bench count planner|tape|root|text|order|report PATH proved|reference"
     );
     ExitCode::FAILURE
@@ -128,7 +129,7 @@ fn table() -> ExitCode {
         report_rows(),
         growth::report(),
         single::report(),
-        search::report(search::GENERATIONS),
+        search::report(search::GENERATIONS, search::SEED),
     ];
     status(agree == [true; 10])
 }

@@ -1,5 +1,7 @@
 //! Small changes of a case.
 
+use std::ops::RangeInclusive;
+
 use reference::generate::{block, limits, steps};
 use reference::line::PLACES;
 use reference::machine::{range, Block, Limits};
@@ -86,23 +88,37 @@ fn change_limit(rng: &mut Rng, limits: &mut Limits) {
         3 => (&mut limits.chord, range::CHORD),
         _ => (&mut limits.tick, range::TICK),
     };
-    *field = rng.spread(*within.start(), *within.end());
+    *field = another(rng, *field, within);
 }
 
 /// Another value of one field of a block, which stays one that moves.
 fn change_block(rng: &mut Rng, block: &mut Block) {
     let axis = rng.below(3) as usize;
-    let size = *range::MOVE.end();
     match rng.below(6) {
-        0 => block.feed = rng.spread(*range::FEED.start(), *range::FEED.end()),
-        1 => block.radius = rng.spread(*range::RADIUS.start(), *range::RADIUS.end()),
+        0 => block.feed = another(rng, block.feed, range::FEED),
+        1 => block.radius = another(rng, block.radius, range::RADIUS),
         2 => block.moves[axis] = -block.moves[axis],
-        3 => block.moves[axis] = (block.moves[axis] + rng.signed(3)).clamp(-size, size),
-        _ => block.moves[axis] = rng.spread(0, size as u64) as i64,
+        _ => {
+            let (sign, size) = (block.moves[axis].signum(), block.moves[axis].unsigned_abs());
+            let size = another(rng, size, 0..=*range::MOVE.end() as u64) as i64;
+            block.moves[axis] = if sign < 0 { -size } else { size };
+        }
     }
     if block.moves == [0; 3] {
         block.moves[axis] = 1;
     }
+}
+
+/// Another value within a range: any, or near the old one, its half or its double.
+fn another(rng: &mut Rng, value: u64, within: RangeInclusive<u64>) -> u64 {
+    let near = |value: u64, rng: &mut Rng| (value + 3).saturating_sub(rng.below(7));
+    let found = match rng.below(5) {
+        0 => near(value / 2, rng),
+        1 => near(2 * value, rng),
+        2 => near(value, rng),
+        _ => rng.spread(*within.start(), *within.end()),
+    };
+    found.clamp(*within.start(), *within.end())
 }
 
 #[cfg(test)]

@@ -10,12 +10,14 @@ mod run;
 use std::cmp::Reverse;
 use std::env;
 use std::fs::File;
+use std::path::Path;
 use std::process::Stdio;
+use std::slice;
 
 use compare::programs::OwnFile;
 use reference::rng::Rng;
 
-use crate::callgrind::single_calls;
+use crate::callgrind::{first_call, single_calls};
 use crate::line;
 use case::Case;
 pub use run::run_cases;
@@ -27,8 +29,8 @@ pub const GENERATIONS: usize = 25;
 const CASES: usize = 400;
 const KEPT: usize = 24;
 
-/// Seed of the search.
-const SEED: u64 = 20_030_619;
+/// Seed of the search of `make bench`.
+pub const SEED: u64 = 20_030_619;
 
 /// The call whose instructions are sought.
 #[derive(Clone, Copy, Debug, PartialEq, Eq)]
@@ -48,13 +50,13 @@ impl Goal {
 
 /// Prints the most that an add and a take were found to take, and by what. False
 /// where the two sides found other numbers in a case.
-pub fn report(generations: usize) -> bool {
+pub fn report(generations: usize, seed: u64) -> bool {
     let mut agree = true;
     for (name, goal) in [
         ("most of an add", Goal::Add),
         ("most of a take", Goal::Take),
     ] {
-        let mut search = Search::begin(goal);
+        let mut search = Search::begin(goal, seed);
         for _ in 0..generations {
             agree &= search.step();
         }
@@ -63,6 +65,9 @@ pub fn report(generations: usize) -> bool {
         line(name, "instructions", [most, None]);
         line("", "cases tried", [Some(search.tried as f64), None]);
         if let Some((_, case)) = found {
+            for (function, own) in parts(case, goal) {
+                println!("    {own:>5} in {function}");
+            }
             println!("{}", case.words());
         }
     }
@@ -80,10 +85,10 @@ struct Search {
 
 impl Search {
     /// Nothing tried yet.
-    fn begin(goal: Goal) -> Search {
+    fn begin(goal: Goal, seed: u64) -> Search {
         Search {
             goal,
-            rng: Rng::new(SEED),
+            rng: Rng::new(seed),
             kept: Vec::new(),
             tried: 0,
         }
@@ -97,7 +102,10 @@ impl Search {
             return agree;
         };
         self.tried += cases.len();
-        self.kept.extend(counts.into_iter().zip(cases));
+        // of equals the newest is kept, so that a search can go on along them
+        let mut found: Vec<(u64, Case)> = counts.into_iter().zip(cases).collect();
+        found.append(&mut self.kept);
+        self.kept = found;
         let rank = |(count, case): &(u64, Case)| (Reverse(*count), case.runs().len());
         self.kept.sort_by_key(rank);
         self.kept.dedup_by_key(|kept| rank(kept));
@@ -128,12 +136,25 @@ impl Search {
 
 /// Instructions of the last call of each case. None where there is no valgrind.
 fn counted(cases: &[Case], goal: Goal) -> Option<Vec<u64>> {
+    let counts = with_cases(cases, goal, single_calls)?;
+    assert_eq!(counts.len(), cases.len(), "a call counted for each case");
+    Some(counts)
+}
+
+/// Where the instructions of a case's last call are.
+fn parts(case: &Case, goal: Goal) -> Vec<(String, u64)> {
+    with_cases(slice::from_ref(case), goal, first_call).unwrap_or_default()
+}
+
+/// What callgrind counts of the last calls of cases.
+fn with_cases<T>(
+    cases: &[Case],
+    goal: Goal,
+    count: impl Fn(&Path, &[&str], Stdio, [&str; 2]) -> T,
+) -> T {
     let bytes: Vec<u8> = cases.iter().flat_map(|case| bytes_of(case, goal)).collect();
     let file = OwnFile::of(&bytes);
     let input = Stdio::from(File::open(&file.path).expect("the file just written"));
     let own = env::current_exe().expect("a program");
-    let names = [goal.function(), run::LAST_CALL];
-    let counts = single_calls(&own, &["cases"], input, names)?;
-    assert_eq!(counts.len(), cases.len(), "a call counted for each case");
-    Some(counts)
+    count(&own, &["cases"], input, [goal.function(), run::LAST_CALL])
 }
