@@ -7,7 +7,7 @@
 
 use std::collections::BTreeSet;
 
-use compare::library::{FIGURES, HOST, LISTED, NUMBERS, PLAN, POINT, REPORT, ROW};
+use compare::library::{FIGURES, HOST, LISTED, NUMBERS, PLAN, POINT, REPORT, ROW, VERSION};
 use compare::proved::{self, Host, Planner, Report};
 use compare::{first_seed, report, seeds, Trying};
 use reference::generate::{block, limits, machine_m, steps, straight_steps};
@@ -239,7 +239,7 @@ fn fields_come_back_as_they_were() {
 }
 
 /// The constants of the header, which is written by hand.
-const HEADER_NUMBERS: [(&str, u64); 40] = [
+const HEADER_NUMBERS: [(&str, u64); 77] = [
     ("NUMBERS", NUMBERS as u64),
     ("PLACES", 64),
     ("LIMITS", 9),
@@ -252,6 +252,7 @@ const HEADER_NUMBERS: [(&str, u64); 40] = [
     ("REPORT", REPORT as u64),
     ("FIGURES", FIGURES as u64),
     ("MOST_TAPES", 100),
+    ("LISTED", LISTED as u64),
     ("LIMITS_BYTES", LIMITS_BYTES as u64),
     ("RECORD_BYTES", RECORD_BYTES as u64),
     ("MOST_BLOCKS", MOST_BLOCKS as u64),
@@ -259,6 +260,42 @@ const HEADER_NUMBERS: [(&str, u64); 40] = [
     ("CALL_BYTES", CALL_BYTES as u64),
     ("ROW", ROW as u64),
     ("PLAN", PLAN as u64),
+    ("LIMIT_ACCEL_X", 0),
+    ("LIMIT_ACCEL_Y", 1),
+    ("LIMIT_ACCEL_Z", 2),
+    ("LIMIT_SPEED_X", 3),
+    ("LIMIT_SPEED_Y", 4),
+    ("LIMIT_SPEED_Z", 5),
+    ("LIMIT_CORNER_JUMP", 6),
+    ("LIMIT_CHORD_TOLERANCE", 7),
+    ("LIMIT_TICK", 8),
+    ("GIVEN_FEED", 0),
+    ("GIVEN_RADIUS", 1),
+    ("GIVEN_MARK", 2),
+    ("GIVEN_LENGTH", 3),
+    ("GIVEN_ACCEL", 4),
+    ("GIVEN_ENTRY", 5),
+    ("GIVEN_EXIT", 6),
+    ("GIVEN_PEAK", 7),
+    ("GIVEN_UP", 8),
+    ("GIVEN_CRUISE", 9),
+    ("GIVEN_DOWN", 10),
+    ("LISTED_CAP", 11),
+    ("LISTED_JUNCTION_CAP", 12),
+    ("ANSWER_NUMBER", 0),
+    ("ANSWER_MOVE_X", 1),
+    ("ANSWER_MOVE_Y", 2),
+    ("ANSWER_MOVE_Z", 3),
+    ("ANSWER_GIVEN", 4),
+    ("FIGURE_BLOCKS", 0),
+    ("FIGURE_LENGTH", 1),
+    ("FIGURE_PEAK", 2),
+    ("FIGURE_FEED", 3),
+    ("FIGURE_CORNER", 4),
+    ("FIGURE_CHORD", 5),
+    ("FIGURE_REACH", 6),
+    ("REPORT_TAPES", 0),
+    ("REPORT_ALL", 1),
     ("HELD_BY_FEED", 0),
     ("HELD_BY_CORNER", 1),
     ("HELD_BY_CHORD", 2),
@@ -296,8 +333,8 @@ fn functions(text: &str) -> BTreeSet<&str> {
         .collect()
 }
 
-/// The header has the constants that the tests lend lists by, and declares the
-/// functions that they call.
+/// The header has the constants that the tests lend lists by, declares the
+/// functions that they call, and says its version as a number and as a text.
 #[test]
 fn the_header_has_these_numbers_and_functions() {
     let header = include_str!("../../../include/fullerecru.h");
@@ -311,8 +348,15 @@ fn the_header_has_these_numbers_and_functions() {
     assert_eq!(found, HEADER_NUMBERS);
     let called = functions(include_str!("../src/library.rs"));
     assert_eq!(functions(header), called);
-    assert_eq!(called.len(), 20);
-    report(40 + 20, "constants and functions of the header");
+    assert_eq!(called.len(), 22);
+    assert!(header.contains(&format!("enum {{ FULLERECRU_VERSION = {VERSION} }};")));
+    let text = [1_000_000, 1_000, 1].map(|part| (VERSION / part % 1_000).to_string());
+    let text = format!("FULLERECRU_VERSION_TEXT \"{}\"", text.join("."));
+    assert!(header.contains(&text), "{text}");
+    report(
+        HEADER_NUMBERS.len() + 22 + 2,
+        "constants and functions of the header",
+    );
 }
 
 /// The numbers of a call for each of three lengths of what it is lent.
