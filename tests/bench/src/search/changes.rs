@@ -19,6 +19,44 @@ impl Case {
         case
     }
 
+    /// This case with limits or last blocks of another, or some changes more.
+    pub fn mixed(&self, other: &Case, rng: &mut Rng) -> Case {
+        let mut case = self.clone();
+        match rng.below(4) {
+            0 => case.limits = other.limits,
+            1 => {
+                let Limits {
+                    jump, chord, tick, ..
+                } = other.limits;
+                case.limits = Limits {
+                    jump,
+                    chord,
+                    tick,
+                    ..case.limits
+                };
+            }
+            2 => case.take_last(other, 1),
+            _ => case.take_last(other, 2),
+        }
+        if rng.once_in(2) {
+            case.change(rng);
+        }
+        case
+    }
+
+    /// Takes over the last `count` blocks of another, as many as both have.
+    fn take_last(&mut self, other: &Case, count: usize) {
+        for (own, new) in self
+            .blocks
+            .iter_mut()
+            .rev()
+            .zip(other.blocks.iter().rev())
+            .take(count)
+        {
+            *own = *new;
+        }
+    }
+
     fn change(&mut self, rng: &mut Rng) {
         match rng.below(16) {
             0 => self.window = rng.spread(1, PLACES as u64) as usize,
@@ -126,13 +164,14 @@ mod tests {
     use super::*;
     use reference::machine::{check_block, check_limits, read_steps};
 
-    /// However often a case is changed, all that it has passes its checks.
+    /// However often a case is mixed and changed, all that it has passes its checks.
     #[test]
     fn changed_cases_pass() {
         let mut rng = Rng::new(2);
         let mut case = Case::drawn(&mut rng);
         for _ in 0..5_000 {
-            case = case.changed(&mut rng);
+            let other = Case::drawn(&mut rng);
+            case = case.mixed(&other, &mut rng).changed(&mut rng);
             assert_eq!(check_limits(&case.limits), Ok(()));
             assert!(read_steps(&case.steps).is_ok());
             assert!(case.blocks.iter().all(|block| check_block(block).is_ok()));

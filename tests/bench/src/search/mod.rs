@@ -23,11 +23,14 @@ use case::Case;
 pub use run::run_cases;
 use run::{alike, bytes_of};
 
-/// Generations of `make bench`, cases of each, and cases that are kept from one to
-/// the next.
+/// Generations of `make bench`, which are those of one climb; cases of each, and
+/// cases that are kept from one to the next.
 pub const GENERATIONS: usize = 25;
 const CASES: usize = 400;
 const KEPT: usize = 24;
+
+/// Every so many climbs one begins with the dearest of all before it.
+const RETURN: usize = 4;
 
 /// Seed of the search of `make bench`.
 pub const SEED: u64 = 20_030_619;
@@ -57,29 +60,30 @@ pub fn report(generations: usize, seed: u64) -> bool {
         ("most of a take", Goal::Take),
     ] {
         let mut search = Search::begin(goal, seed);
-        for _ in 0..generations {
-            agree &= search.step();
+        for generation in 0..generations {
+            agree &= search.step(generation);
         }
-        let found = search.kept.first();
-        let most = found.map(|(count, _)| *count as f64);
-        line(name, "instructions", [most, None]);
-        line("", "cases tried", [Some(search.tried as f64), None]);
-        if let Some((_, case)) = found {
-            for (function, own) in parts(case, goal) {
-                println!("    {own:>5} in {function}");
-            }
-            println!("{}", case.words());
-        }
+        search.print(name);
     }
     agree
 }
 
-/// A search that goes on.
+/// A case with the instructions of its last call.
+type Counted = (u64, Case);
+
+/// Dearer cases come first, and of equally dear ones that of fewer runs.
+fn rank((count, case): &Counted) -> (Reverse<u64>, usize) {
+    (Reverse(*count), case.runs().len())
+}
+
+/// A search that goes on: climbs of 25 generations, each from other cases.
 struct Search {
     goal: Goal,
     rng: Rng,
-    /// The dearest cases with their instructions, the dearest first.
-    kept: Vec<(u64, Case)>,
+    /// The dearest cases of this climb, the dearest first.
+    kept: Vec<Counted>,
+    /// The dearest case of each climb, this one's included.
+    climbs: Vec<Counted>,
     tried: usize,
 }
 
@@ -90,47 +94,96 @@ impl Search {
             goal,
             rng: Rng::new(seed),
             kept: Vec::new(),
+            climbs: Vec::new(),
             tried: 0,
         }
     }
 
-    /// One generation. False where the two sides found other numbers.
-    fn step(&mut self) -> bool {
+    /// One generation, counted from 0. False where the two sides found other
+    /// numbers.
+    fn step(&mut self, generation: usize) -> bool {
+        let begins = generation.is_multiple_of(GENERATIONS);
+        if begins {
+            let returns = (generation / GENERATIONS).is_multiple_of(RETURN);
+            self.kept = if returns {
+                self.climbs.clone()
+            } else {
+                Vec::new()
+            };
+        }
         let cases = self.cases();
         let agree = cases.iter().all(|case| alike(case, self.goal));
-        let Some(counts) = counted(&cases, self.goal) else {
-            return agree;
-        };
-        self.tried += cases.len();
-        // of equals the newest is kept, so that a search can go on along them
-        let mut found: Vec<(u64, Case)> = counts.into_iter().zip(cases).collect();
-        found.append(&mut self.kept);
-        self.kept = found;
-        let rank = |(count, case): &(u64, Case)| (Reverse(*count), case.runs().len());
-        self.kept.sort_by_key(rank);
-        self.kept.dedup_by_key(|kept| rank(kept));
-        self.kept.truncate(KEPT);
+        if let Some(counts) = counted(&cases, self.goal) {
+            self.tried += cases.len();
+            self.keep(counts.into_iter().zip(cases).collect());
+            self.note(begins);
+        }
         agree
     }
 
-    /// The cases of the next generation: those known from longer searches at
-    /// first, then changes of the kept, and one in five anew.
+    /// Keeps the dearest of the found and the kept. Of equals the newest stays, so
+    /// that a climb can go on along them.
+    fn keep(&mut self, mut found: Vec<Counted>) {
+        found.append(&mut self.kept);
+        found.sort_by_key(rank);
+        found.dedup_by_key(|case| rank(case));
+        found.truncate(KEPT);
+        self.kept = found;
+    }
+
+    /// Notes the dearest case of the climb where it is dearer than before.
+    fn note(&mut self, begins: bool) {
+        let dearest = self.kept[0].clone();
+        match self.climbs.last_mut() {
+            Some(last) if !begins => {
+                if rank(&dearest) < rank(last) {
+                    *last = dearest;
+                }
+            }
+            _ => self.climbs.push(dearest),
+        }
+    }
+
+    /// The cases of the next generation: changes of the kept, mixtures of two, and
+    /// new ones, all of them new where none is kept. The first generation has
+    /// those known from longer searches.
     fn cases(&mut self) -> Vec<Case> {
+        let mut cases = match self.tried {
+            0 => known::cases(self.goal),
+            _ => Vec::new(),
+        };
+        while cases.len() < CASES {
+            let case = self.next_case();
+            cases.push(case);
+        }
+        cases
+    }
+
+    fn next_case(&mut self) -> Case {
         let rng = &mut self.rng;
         if self.kept.is_empty() {
-            let mut cases = known::cases(self.goal);
-            cases.resize_with(CASES, || Case::drawn(rng));
-            return cases;
+            return Case::drawn(rng);
         }
-        let kept = &self.kept;
-        let next = |_| match rng.below(5) {
+        let count = self.kept.len() as u64;
+        let [one, other] = [(); 2].map(|_| &self.kept[rng.below(count) as usize].1);
+        match rng.below(6) {
             0 => Case::drawn(rng),
-            _ => {
-                let place = rng.below(kept.len() as u64) as usize;
-                kept[place].1.changed(rng)
-            }
-        };
-        (0..CASES).map(next).collect()
+            1 => one.mixed(other, rng),
+            _ => one.changed(rng),
+        }
+    }
+
+    /// Prints the dearest case of all climbs.
+    fn print(&self, name: &str) {
+        let found = self.climbs.iter().min_by_key(|case| rank(case));
+        let most = found.map(|(count, _)| *count as f64);
+        line(name, "instructions", [most, None]);
+        line("", "cases tried", [Some(self.tried as f64), None]);
+        let Some((_, case)) = found else { return };
+        for (function, own) in parts(case, self.goal) {
+            println!("    {own:>5} in {function}");
+        }
+        println!("{}", case.words());
     }
 }
 
