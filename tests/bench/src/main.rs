@@ -1,19 +1,25 @@
 //! Prints time and instructions of the proved planner, report, root, reading of a
-//! text and orders beside those of the reference, and what planlist, ngctape and
-//! planorders take. Fails where the two differ.
+//! text and orders beside those of the reference, how the planner's grow with the
+//! blocks held, the most that single calls take on the paths and in a search, and
+//! what planlist, ngctape and planorders take. Fails where the two differ.
 
 mod callgrind;
+mod growth;
 mod list;
 mod orders;
 mod paths;
+mod search;
+mod single;
 mod texts;
 mod work;
 
 use std::env;
+use std::io;
 use std::process::{ExitCode, Stdio};
 use std::time::Instant;
 
 use paths::Path;
+use reference::line::PLACES;
 use work::{Ready, Side, Work};
 
 /// Rounds that are timed, each of ten times the blocks in which instructions
@@ -22,7 +28,7 @@ const ROUNDS: usize = 9;
 const TIMES: usize = 10;
 
 const WORKS: [(&str, Work); 3] = [
-    ("planner", Work::Planner),
+    ("planner", Work::Planner(PLACES)),
     ("tape", Work::Tape),
     ("root", Work::Root),
 ];
@@ -46,32 +52,54 @@ const STEPS: [(&str, Path); 4] = [
 ];
 const SIDES: [(&str, Side); 2] = [("proved", Side::Proved), ("reference", Side::Reference)];
 
-/// Without arguments the whole table; `count WORK PATH SIDE` runs that once,
-/// for callgrind.
+/// Without arguments the whole table; `search GENERATIONS SEED` that part of it, as
+/// long as wanted. For callgrind `count WORK PATH SIDE` runs that once, and `cases`
+/// the cases of the search on standard input.
 fn main() -> ExitCode {
     let arguments: Vec<String> = env::args().skip(1).collect();
     match arguments.iter().map(String::as_str).collect::<Vec<_>>()[..] {
         [] => table(),
         ["count", work, path, side] => {
-            let works = [&WORKS[..], &TEXTS, &[ORDER, REPORT]].concat();
+            let works = [&WORKS[..], &TEXTS, &[ORDER, REPORT], &growth::HELD].concat();
             let (work, side) = (named(&works, work), named(&SIDES, side));
-            let mut ready = Ready::new(work, side, named(paths(work), path), work.counted());
+            let paths = [paths(work), &[growth::RANDOM]].concat();
+            let mut ready = Ready::new(work, side, named(&paths, path), work.counted());
             println!("{}", ready.run());
             ExitCode::SUCCESS
         }
-        _ => {
-            eprintln!(
-                "bench | bench count planner|tape|root|text|order|report PATH proved|reference"
-            );
-            ExitCode::FAILURE
+        ["cases"] => {
+            search::run_cases(&mut io::stdin().lock());
+            ExitCode::SUCCESS
         }
+        ["search", generations, seed] => match (generations.parse(), seed.parse()) {
+            (Ok(generations), Ok(seed)) => status(search::report(generations, seed)),
+            _ => usage(),
+        },
+        _ => usage(),
+    }
+}
+
+fn usage() -> ExitCode {
+    eprintln!(
+        "bench | bench search GENERATIONS SEED | bench cases\n\
+         bench count planner|tape|root|text|order|report PATH proved|reference"
+    );
+    ExitCode::FAILURE
+}
+
+/// Fails where the two sides found other numbers.
+fn status(agree: bool) -> ExitCode {
+    if agree {
+        ExitCode::SUCCESS
+    } else {
+        ExitCode::FAILURE
     }
 }
 
 /// The paths that a work is measured on.
 fn paths(work: Work) -> &'static [(&'static str, Path)] {
     match work {
-        Work::Planner | Work::Tape | Work::Report => &PATHS,
+        Work::Planner(_) | Work::Tape | Work::Report => &PATHS,
         Work::Root => &STEPS,
         Work::Text | Work::Order => &PATHS[..1],
     }
@@ -99,12 +127,11 @@ fn table() -> ExitCode {
         order_rows(),
         list::report_orders(),
         report_rows(),
+        growth::report(),
+        single::report(),
+        search::report(search::GENERATIONS, search::SEED),
     ];
-    if agree == [true; 7] {
-        ExitCode::SUCCESS
-    } else {
-        ExitCode::FAILURE
-    }
+    status(agree == [true; 10])
 }
 
 /// What a block of a work takes on a path by each side: instructions and ns;

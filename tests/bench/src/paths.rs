@@ -18,6 +18,10 @@ pub enum Path {
     /// The blocks of the mould, each on a curve of 1 mm radius, whose chord cap
     /// on machine M is below the feed's.
     Curved,
+    /// Moves of −18 to 18 µm on each axis, feed 50,000 µm/s. Neighbours turn any
+    /// way, which stops an add's walk back early: no work of a mould, and it
+    /// flatters a planner.
+    Random,
     /// Moves of a least and a greatest size on each axis, µm, feed 50,000 µm/s.
     Steps(u64, u64),
 }
@@ -39,6 +43,10 @@ impl Path {
             Path::Straight => {
                 let moves = iter::repeat_with(|| [1 + draws.below(5), 0, 0]);
                 marked(moves, 500_000, count)
+            }
+            Path::Random => {
+                let moves = iter::repeat_with(|| [(); 3].map(|_| draws.below(37) - 18));
+                marked(moves.filter(|moves| *moves != [0; 3]), 50_000, count)
             }
             Path::Steps(least, most) => {
                 let mut drawn = || least as i64 + draws.below(most - least + 1);
@@ -235,6 +243,16 @@ mod tests {
     }
 
     #[test]
+    fn random_moves_go_every_way() {
+        let all = moves(Path::Random, 0..SUMMED);
+        assert!(all.iter().flatten().all(|size| size.abs() <= 18));
+        let [least, most] = [[-18; 3], [18; 3]];
+        let reached = |end: [i64; 3]| (0..3).all(|axis| all.iter().any(|m| m[axis] == end[axis]));
+        assert!(reached(least) && reached(most));
+        assert!(!all.contains(&[0; 3]));
+    }
+
+    #[test]
     fn the_curved_path_moves_as_the_mould() {
         let all = 0..SUMMED;
         assert_eq!(moves(Path::Curved, all.clone()), moves(Path::Mould, all));
@@ -246,6 +264,7 @@ mod tests {
             (Path::Mould, 50_000, 0),
             (Path::Straight, 500_000, 0),
             (Path::Curved, 50_000, 1_000),
+            (Path::Random, 50_000, 0),
             (Path::Steps(1, 50), 50_000, 0),
         ];
         for (path, feed, radius) in fields {

@@ -31,8 +31,8 @@ const NONE_LOADED: &[u8] = &[];
 /// What it does, on machine M.
 #[derive(Clone, Copy, Debug)]
 pub enum Work {
-    /// One take and one add for each block, with 64 held.
-    Planner,
+    /// One take and one add for each block, with so many held.
+    Planner(usize),
     /// The plan of tapes of 2,048 blocks.
     Tape,
     /// The figures of such tapes, each in a fresh report.
@@ -51,7 +51,7 @@ impl Work {
     /// ones.
     pub fn counted(self) -> usize {
         match self {
-            Work::Planner | Work::Root | Work::Order => 20_000,
+            Work::Planner(_) | Work::Root | Work::Order => 20_000,
             Work::Tape | Work::Report | Work::Text => 10 * MOST_BLOCKS,
         }
     }
@@ -59,8 +59,8 @@ impl Work {
     /// Name of the function that does it.
     pub fn function(self, side: Side) -> &'static str {
         match (self, side) {
-            (Work::Planner, Side::Proved) => "feed_proved",
-            (Work::Planner, Side::Reference) => "feed_reference",
+            (Work::Planner(_), Side::Proved) => "feed_proved",
+            (Work::Planner(_), Side::Reference) => "feed_reference",
             (Work::Tape, Side::Proved) => "plan_proved",
             (Work::Tape, Side::Reference) => "plan_reference",
             (Work::Report, Side::Proved) => "report_proved",
@@ -96,9 +96,9 @@ impl Ready {
     /// up to whole ones.
     pub fn new(work: Work, side: Side, path: Path, count: usize) -> Ready {
         match (work, side) {
-            (Work::Planner, side) => {
-                let mut blocks = path.blocks(PLACES + count);
-                let rest = blocks.split_off(PLACES);
+            (Work::Planner(held), side) => {
+                let mut blocks = path.blocks(held + count);
+                let rest = blocks.split_off(held);
                 match side {
                     Side::Proved => Ready::FeedProved(filled_memory(&blocks), rest),
                     Side::Reference => Ready::FeedReference(filled_planner(&blocks), rest),

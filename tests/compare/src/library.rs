@@ -12,8 +12,13 @@ pub const POINT: usize = 3;
 /// Numbers of a report, and figures of a tape.
 pub const REPORT: usize = 8;
 pub const FIGURES: usize = 7;
+/// Numbers of a row of a tape's list.
+pub const LISTED: usize = 13;
+/// The version of the header, 1,000,000 × major + 1,000 × minor + patch.
+pub const VERSION: u64 = 10_000;
 
 extern "C" {
+    pub fn fullerecru_version() -> u64;
     pub fn fullerecru_fresh(
         memory: *mut u64,
         limits: *const u64,
@@ -57,6 +62,15 @@ extern "C" {
         steps_count: usize,
         list: *mut u64,
         junctions: usize,
+        place: *mut u64,
+    ) -> u64;
+    pub fn fullerecru_list_tape(
+        tape: *const u8,
+        count: usize,
+        steps: *const u8,
+        steps_count: usize,
+        rows: *mut u64,
+        numbers: usize,
         place: *mut u64,
     ) -> u64;
     pub fn fullerecru_replay(

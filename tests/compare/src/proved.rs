@@ -1,7 +1,7 @@
 //! The calls of libfullerecru.a. Each lends copies between guards, and sees
 //! that what is lent to be read stays as it was, and after a refusal every
-//! lent number and byte. The root is lent nothing. `host` has a host's orders,
-//! `reports` what held tapes back.
+//! lent number and byte. The root and the version are lent nothing. `host` has a
+//! host's orders, `reports` what held tapes back.
 
 mod host;
 mod reports;
@@ -53,6 +53,11 @@ fn confirm<T: Copy + PartialEq + Debug>(number: u64, before: &[T], after: &Guard
     if number != 0 {
         assert!(after.list() == before, "refused by {number}, yet it wrote");
     }
+}
+
+/// The version that the library says it has.
+pub fn version() -> u64 {
+    unsafe { fullerecru_version() }
 }
 
 /// The root of a number, from libarith_c.a.
@@ -159,6 +164,11 @@ fn answer_at(number: u64, place: &Guarded<u64>) -> Result<(), Fault> {
 /// The plan of a whole tape in the list.
 pub fn plan_tape(tape: &[u8], steps: &[u8], list: &mut [u64]) -> Result<(), Fault> {
     on_tape(fullerecru_plan_tape, tape, steps, list)
+}
+
+/// The rows of a whole tape's blocks in the list.
+pub fn list_tape(tape: &[u8], steps: &[u8], rows: &mut [u64]) -> Result<(), Fault> {
+    on_tape(fullerecru_list_tape, tape, steps, rows)
 }
 
 /// A trace run under loaded torque steps, none if the list of them is empty:

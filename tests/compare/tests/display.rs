@@ -7,7 +7,7 @@
 
 use std::collections::BTreeSet;
 
-use compare::library::{FIGURES, HOST, NUMBERS, PLAN, POINT, REPORT, ROW};
+use compare::library::{FIGURES, HOST, LISTED, NUMBERS, PLAN, POINT, REPORT, ROW, VERSION};
 use compare::proved::{self, Host, Planner, Report};
 use compare::{first_seed, report, seeds, Trying};
 use reference::generate::{block, limits, machine_m, steps, straight_steps};
@@ -96,6 +96,14 @@ fn held_number(bytes: &[u8], steps: &[u8], junctions: usize) -> (u64, u64) {
     }
 }
 
+/// The number and the place of a tape under steps, listed in so many numbers.
+fn list_number(bytes: &[u8], steps: &[u8], numbers: usize) -> (u64, u64) {
+    match proved::list_tape(bytes, steps, &mut vec![77; numbers]) {
+        Ok(()) => (0, 0),
+        Err(fault) => (fault.refusal.number(), fault.place),
+    }
+}
+
 /// The number and the place of a text whose records go into a list of a length.
 fn text_number(text: &[u8], room: usize) -> (u64, u64) {
     match proved::text_records(text, &mut vec![77; room]) {
@@ -112,9 +120,9 @@ fn trace_numbers(bytes: &[u8], steps: &[u8], numbers: usize, junctions: usize) -
 }
 
 /// The numbers that the functions which take limits give, with steps where they
-/// take these too: fresh, a writer, a reader, a tape planned, reported and told
-/// what held it, and a trace.
-fn limits_numbers(limits: &Limits, steps: &[u8]) -> [u64; 7] {
+/// take these too: fresh, a writer, a reader, a tape planned, reported, told what
+/// held it and listed, and a trace.
+fn limits_numbers(limits: &Limits, steps: &[u8]) -> [u64; 8] {
     let bytes = pack_limits(limits, 0);
     [
         number(Planner::fresh(limits, steps)),
@@ -123,6 +131,7 @@ fn limits_numbers(limits: &Limits, steps: &[u8]) -> [u64; 7] {
         tape_number(&bytes, steps, 1).0,
         report_number(0, &bytes, steps).0,
         held_number(&bytes, steps, 0).0,
+        list_number(&bytes, steps, 0).0,
         trace_numbers(&bytes, steps, 0, PLAN).0,
     ]
 }
@@ -139,8 +148,8 @@ fn each_limit_is_accepted_at_its_ends_and_refused_beyond() {
                 let (mut limits, steps) = (limits(&mut rng), steps(&mut rng));
                 *field(&mut limits) = value;
                 let numbers = limits_numbers(&limits, &steps);
-                assert_eq!(numbers, [expected; 7], "{limits:?} {steps:?}");
-                count += 7;
+                assert_eq!(numbers, [expected; 8], "{limits:?} {steps:?}");
+                count += 8;
             }
         }
     }
@@ -148,9 +157,9 @@ fn each_limit_is_accepted_at_its_ends_and_refused_beyond() {
 }
 
 /// The number that a block gives to an add, a writer and a trace; and to a
-/// reader and a tape planned, reported and told what held it, which have no mark
-/// that is too large.
-fn block_numbers(block: &Block, steps: &[u8]) -> ([u64; 3], Option<[u64; 4]>) {
+/// reader and a tape planned, reported, told what held it and listed, which have
+/// no mark that is too large.
+fn block_numbers(block: &Block, steps: &[u8]) -> ([u64; 3], Option<[u64; 5]>) {
     let mut planner = Planner::fresh(&machine_m(), steps).expect("steps that pass");
     let record = pack_record(block);
     let tape = [pack_limits(&machine_m(), 0), record.clone()].concat();
@@ -165,11 +174,12 @@ fn block_numbers(block: &Block, steps: &[u8]) -> ([u64; 3], Option<[u64; 4]>) {
     let others = [
         report_number(99, &tape, steps),
         held_number(&tape, steps, 0),
+        list_number(&tape, steps, LISTED),
     ];
-    assert_eq!(others, [(of_tape, place); 2], "{block:?}");
-    let [reported, held] = others.map(|(number, _)| number);
+    assert_eq!(others, [(of_tape, place); 3], "{block:?}");
+    let [reported, held, listed] = others.map(|(number, _)| number);
     let read = number(proved::read_record(&record));
-    let on_tape = [read, of_tape, reported, held];
+    let on_tape = [read, of_tape, reported, held, listed];
     (numbers, (block.mark < 1 << 21).then_some(on_tape))
 }
 
@@ -186,9 +196,9 @@ fn each_field_is_accepted_at_its_ends_and_refused_beyond() {
                 set(&mut block, value);
                 let (numbers, on_tape) = block_numbers(&block, &steps(&mut rng));
                 assert_eq!(numbers, [expected; 3], "{block:?}");
-                let on_tape = on_tape.unwrap_or([expected; 4]);
-                assert_eq!(on_tape, [expected; 4], "{block:?}");
-                count += 7;
+                let on_tape = on_tape.unwrap_or([expected; 5]);
+                assert_eq!(on_tape, [expected; 5], "{block:?}");
+                count += 8;
             }
         }
         let still = Block {
@@ -196,7 +206,7 @@ fn each_field_is_accepted_at_its_ends_and_refused_beyond() {
             ..block(&mut rng)
         };
         let numbers = block_numbers(&still, &steps(&mut rng));
-        assert_eq!(numbers, ([2; 3], Some([2; 4])), "{still:?}");
+        assert_eq!(numbers, ([2; 3], Some([2; 5])), "{still:?}");
     }
     report(count, "fields at their ends");
 }
@@ -229,7 +239,7 @@ fn fields_come_back_as_they_were() {
 }
 
 /// The constants of the header, which is written by hand.
-const HEADER_NUMBERS: [(&str, u64); 40] = [
+const HEADER_NUMBERS: [(&str, u64); 77] = [
     ("NUMBERS", NUMBERS as u64),
     ("PLACES", 64),
     ("LIMITS", 9),
@@ -242,6 +252,7 @@ const HEADER_NUMBERS: [(&str, u64); 40] = [
     ("REPORT", REPORT as u64),
     ("FIGURES", FIGURES as u64),
     ("MOST_TAPES", 100),
+    ("LISTED", LISTED as u64),
     ("LIMITS_BYTES", LIMITS_BYTES as u64),
     ("RECORD_BYTES", RECORD_BYTES as u64),
     ("MOST_BLOCKS", MOST_BLOCKS as u64),
@@ -249,6 +260,42 @@ const HEADER_NUMBERS: [(&str, u64); 40] = [
     ("CALL_BYTES", CALL_BYTES as u64),
     ("ROW", ROW as u64),
     ("PLAN", PLAN as u64),
+    ("LIMIT_ACCEL_X", 0),
+    ("LIMIT_ACCEL_Y", 1),
+    ("LIMIT_ACCEL_Z", 2),
+    ("LIMIT_SPEED_X", 3),
+    ("LIMIT_SPEED_Y", 4),
+    ("LIMIT_SPEED_Z", 5),
+    ("LIMIT_CORNER_JUMP", 6),
+    ("LIMIT_CHORD_TOLERANCE", 7),
+    ("LIMIT_TICK", 8),
+    ("GIVEN_FEED", 0),
+    ("GIVEN_RADIUS", 1),
+    ("GIVEN_MARK", 2),
+    ("GIVEN_LENGTH", 3),
+    ("GIVEN_ACCEL", 4),
+    ("GIVEN_ENTRY", 5),
+    ("GIVEN_EXIT", 6),
+    ("GIVEN_PEAK", 7),
+    ("GIVEN_UP", 8),
+    ("GIVEN_CRUISE", 9),
+    ("GIVEN_DOWN", 10),
+    ("LISTED_CAP", 11),
+    ("LISTED_JUNCTION_CAP", 12),
+    ("ANSWER_NUMBER", 0),
+    ("ANSWER_MOVE_X", 1),
+    ("ANSWER_MOVE_Y", 2),
+    ("ANSWER_MOVE_Z", 3),
+    ("ANSWER_GIVEN", 4),
+    ("FIGURE_BLOCKS", 0),
+    ("FIGURE_LENGTH", 1),
+    ("FIGURE_PEAK", 2),
+    ("FIGURE_FEED", 3),
+    ("FIGURE_CORNER", 4),
+    ("FIGURE_CHORD", 5),
+    ("FIGURE_REACH", 6),
+    ("REPORT_TAPES", 0),
+    ("REPORT_ALL", 1),
     ("HELD_BY_FEED", 0),
     ("HELD_BY_CORNER", 1),
     ("HELD_BY_CHORD", 2),
@@ -286,8 +333,8 @@ fn functions(text: &str) -> BTreeSet<&str> {
         .collect()
 }
 
-/// The header has the constants that the tests lend lists by, and declares the
-/// functions that they call.
+/// The header has the constants that the tests lend lists by, declares the
+/// functions that they call, and says its version as a number and as a text.
 #[test]
 fn the_header_has_these_numbers_and_functions() {
     let header = include_str!("../../../include/fullerecru.h");
@@ -301,8 +348,15 @@ fn the_header_has_these_numbers_and_functions() {
     assert_eq!(found, HEADER_NUMBERS);
     let called = functions(include_str!("../src/library.rs"));
     assert_eq!(functions(header), called);
-    assert_eq!(called.len(), 20);
-    report(40 + 20, "constants and functions of the header");
+    assert_eq!(called.len(), 22);
+    assert!(header.contains(&format!("enum {{ FULLERECRU_VERSION = {VERSION} }};")));
+    let text = [1_000_000, 1_000, 1].map(|part| (VERSION / part % 1_000).to_string());
+    let text = format!("FULLERECRU_VERSION_TEXT \"{}\"", text.join("."));
+    assert!(header.contains(&text), "{text}");
+    report(
+        HEADER_NUMBERS.len() + 22 + 2,
+        "constants and functions of the header",
+    );
 }
 
 /// The numbers of a call for each of three lengths of what it is lent.

@@ -9,7 +9,7 @@
 
 use compare::guarded::{lend_at, Side, SIDES};
 use compare::hosts::{any_host, Kept};
-use compare::library::{HOST, PLAN, REPORT, ROW};
+use compare::library::{HOST, LISTED, PLAN, REPORT, ROW};
 use compare::proved::{self, Host, Planner, Report};
 use compare::texts::{bytes_of, compare_text};
 use compare::traces::{self, rows};
@@ -24,6 +24,7 @@ use reference::refusal::Refusal;
 use reference::report as known;
 use reference::rng::Rng;
 use reference::tape::{self, pack_limits, pack_record, Tape, LIMITS_BYTES, MOST_BLOCKS};
+use reference::tape_list;
 use reference::text::text_blocks;
 use reference::trace::{pack_trace, CALL_BYTES};
 
@@ -259,6 +260,59 @@ fn a_reported_tape_of_many_records_stays_in_its_bytes_and_lists() {
     );
 }
 
+/// Compares the rows of a tape under the steps in a list of `n` numbers; gives the
+/// number on the display.
+fn compare_listed(seed: u64, side: Side, (tape, steps): (&[u8], &[u8]), n: usize) -> u64 {
+    let input = || format!("{side:?} {} under {} in {n}", hex(tape), hex(steps));
+    let (mut rows, mut expected) = (vec![77; n], vec![77; n]);
+    let found = proved::list_tape(tape, steps, &mut rows);
+    let known = tape_list::list_tape(tape, steps, &mut expected);
+    same(seed, input, (found, rows), (known, expected));
+    found.map_or_else(|fault| fault.refusal.number(), |()| 0)
+}
+
+/// Tapes of each length in bytes up to three records, listed in 0 to 40 numbers.
+#[test]
+fn a_listed_tape_of_each_length_stays_in_its_bytes_and_rows() {
+    at_both_sides(|seed, rng, side| {
+        let (limits, blocks) = tied_path(rng, 3);
+        let whole = Tape { limits, blocks }.pack();
+        for (length, n) in (0..=whole.len()).flat_map(|length| (0..=40).map(move |n| (length, n))) {
+            let steps = some_steps(rng);
+            compare_listed(seed, side, (&whole[..length], &steps), n);
+        }
+    });
+    report(
+        2 * 73 * 41,
+        "lists of tapes of 0 to 72 bytes in 0 to 40 numbers",
+    );
+}
+
+/// Whole tapes of 0 to 2,048 records, many of them, and what is one too long.
+#[test]
+fn a_listed_tape_of_many_records_stays_in_its_bytes_and_rows() {
+    let counts = || {
+        (0..100)
+            .chain((100..MOST_BLOCKS).step_by(37))
+            .chain([2_048])
+    };
+    at_both_sides(|seed, rng, side| {
+        let (limits, blocks) = tied_path(rng, MOST_BLOCKS + 1);
+        let whole = Tape { limits, blocks }.pack();
+        for records in counts() {
+            let (bytes, steps) = (&whole[..LIMITS_BYTES + 16 * records], steps(rng));
+            let number = compare_listed(seed, side, (bytes, &steps), LISTED * records);
+            assert_eq!(number, 0, "{side:?} {records}");
+        }
+        let n = LISTED * (MOST_BLOCKS + 1);
+        assert_eq!(compare_listed(seed, side, (&whole, &[]), n), 10, "{side:?}");
+    });
+    report(
+        2 * (counts().count() + 1),
+        "lists of tapes of 0 to 2049 records",
+    );
+}
+
 /// Compares a trace under the steps in lists of these lengths.
 fn compare_trace(
     seed: u64,
@@ -353,8 +407,8 @@ fn noise(rng: &mut Rng, length: usize) -> Vec<u8> {
     (0..length).map(|_| rng.word() as u8).collect()
 }
 
-/// Steps of 0 to 300 bytes, lent to a fresh planner, with a tape to be planned
-/// and to be reported, and with a trace. An empty list begins, at the one side,
+/// Steps of 0 to 300 bytes, lent to a fresh planner, with a tape to be planned,
+/// reported and listed, and with a trace. An empty list begins, at the one side,
 /// where the page begins that cannot be read.
 #[test]
 fn steps_of_each_length_stay_in_their_bytes() {
@@ -374,10 +428,11 @@ fn steps_of_each_length_stay_in_their_bytes() {
                 same(seed, input, (found, plan), (known, expected));
                 compare_trace(seed, side, (&trace, &steps), [rows(&trace), PLAN]);
                 compare_reported(seed, rng, side, (&tape, &steps), 2);
+                compare_listed(seed, side, (&tape, &steps), 3 * LISTED);
             }
         }
     });
-    report(2 * 301 * 2 * 5, "calls with 0 to 300 bytes of steps");
+    report(2 * 301 * 2 * 6, "calls with 0 to 300 bytes of steps");
 }
 
 /// Orders of every sort with takes between, accepted and refused, from a fresh

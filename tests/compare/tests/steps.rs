@@ -12,7 +12,7 @@
 use std::collections::BTreeSet;
 use std::hint::black_box;
 
-use compare::library::{fullerecru_fresh, NUMBERS, PLAN, ROW};
+use compare::library::{fullerecru_fresh, LISTED, NUMBERS, PLAN, ROW};
 use compare::programs::{planlist, planorders, planreplay, run, run_under, run_with_steps};
 use compare::proved::{self, Planner, Report};
 use compare::ring::TORQUE;
@@ -225,6 +225,19 @@ fn held_number(tape: &[u8], steps: &[u8], n: usize) -> (u64, u64) {
     }
 }
 
+/// The number and the place of a tape under steps listed in `n` numbers, which a
+/// refusal leaves as they are.
+fn list_number(tape: &[u8], steps: &[u8], n: usize) -> (u64, u64) {
+    let mut rows = vec![77; n];
+    match proved::list_tape(tape, steps, &mut rows) {
+        Ok(()) => (0, 0),
+        Err(Fault { refusal, place }) => {
+            assert_eq!(rows, vec![77; n], "refused by {refusal:?}");
+            (refusal.number(), place)
+        }
+    }
+}
+
 /// The number of a trace run under steps in lists of these lengths, which a
 /// refusal leaves as they are.
 fn trace_number(trace: &[u8], steps: &[u8], [numbers, junctions]: [usize; 2]) -> u64 {
@@ -270,13 +283,14 @@ fn refused_lists_change_nothing() {
         let told = [
             report_number(&tape_of_two(), refused),
             held_number(&tape_of_two(), refused, 1),
+            list_number(&tape_of_two(), refused, 2 * LISTED),
         ];
-        assert_eq!(told, [(14, 0); 2], "{refused:?}");
+        assert_eq!(told, [(14, 0); 3], "{refused:?}");
         let lengths = [3 * ROW, PLAN];
         let told = trace_number(&trace_of_two(), refused, lengths);
         assert_eq!(told, 14, "{refused:?}");
     }
-    report(5 * lists.len(), "calls with refused lists of steps");
+    report(6 * lists.len(), "calls with refused lists of steps");
 }
 
 #[test]
@@ -447,9 +461,11 @@ fn limits_and_steps(rng: &mut Rng, failing: &BTreeSet<u64>) -> (Limits, Vec<u8>)
 struct FaultyTape {
     bytes: Vec<u8>,
     steps: Vec<u8>,
-    /// Length of the lent list, and of one for what held the inner junctions.
+    /// Length of the lent list, of one for what held the inner junctions, and of
+    /// one for the rows.
     junctions: usize,
     inner: usize,
+    listed: usize,
     /// Number and place that are to be told.
     expected: (u64, u64),
 }
@@ -474,15 +490,16 @@ fn faulty(rng: &mut Rng, failing: &BTreeSet<u64>) -> FaultyTape {
     }
     let wrong = rng.pick(&[0, records, records + 2]);
     let more = rng.within(1, 2) as usize;
-    let (junctions, inner) = match failing.contains(&11) {
-        true => (wrong, records - 1 + more),
-        false => (records + 1, records - 1),
+    let (junctions, inner, listed) = match failing.contains(&11) {
+        true => (wrong, records - 1 + more, LISTED * records - more),
+        false => (records + 1, records - 1, LISTED * records),
     };
     FaultyTape {
         bytes,
         steps,
         junctions,
         inner,
+        listed,
         expected: match first_of(&TAPE_CHECKS, failing) {
             Some(2) => (faults[0], place),
             told => (told.unwrap_or(0), 0),
@@ -505,13 +522,15 @@ fn of_a_tapes_faults_the_first_is_told() {
             same(seed, input, told, tape.expected);
             let told = held_number(&tape.bytes, &tape.steps, tape.inner);
             same(seed, input, told, tape.expected);
+            let told = list_number(&tape.bytes, &tape.steps, tape.listed);
+            same(seed, input, told, tape.expected);
             let told = report_number(&tape.bytes, &tape.steps);
             let expected = match tape.expected {
                 (11, _) => (0, 0),
                 expected => expected,
             };
             same(seed, input, told, expected);
-            count += 3;
+            count += 4;
         }
     }
     report(count, "sets of a tape's faults");

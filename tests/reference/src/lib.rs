@@ -37,5 +37,6 @@ pub mod search;
 pub mod step_cases;
 pub mod tape;
 pub mod tape_cases;
+pub mod tape_list;
 pub mod text;
 pub mod trace;
