@@ -122,8 +122,7 @@ mod tests {
         let expected = [false, false, true, false, true, false];
         assert_eq!(takes.collect::<Vec<_>>(), expected);
         let calls = case(64, 1).calls(Goal::Take);
-        assert_eq!([calls.len(), 2], [2; 2]);
-        assert_eq!(calls[1], Call::Take);
+        assert_eq!((calls.len(), calls[1]), (2, Call::Take));
     }
 
     #[test]

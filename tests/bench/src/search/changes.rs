@@ -19,7 +19,8 @@ impl Case {
         case
     }
 
-    /// This case with limits or last blocks of another, or some changes more.
+    /// This case with limits or last blocks of another, half of the time changed
+    /// besides.
     pub fn mixed(&self, other: &Case, rng: &mut Rng) -> Case {
         let mut case = self.clone();
         match rng.below(4) {
@@ -46,15 +47,8 @@ impl Case {
 
     /// Takes over the last `count` blocks of another, as many as both have.
     fn take_last(&mut self, other: &Case, count: usize) {
-        for (own, new) in self
-            .blocks
-            .iter_mut()
-            .rev()
-            .zip(other.blocks.iter().rev())
-            .take(count)
-        {
-            *own = *new;
-        }
+        let (own, new) = (self.blocks.iter_mut().rev(), other.blocks.iter().rev());
+        own.zip(new).take(count).for_each(|(own, new)| *own = *new);
     }
 
     fn change(&mut self, rng: &mut Rng) {

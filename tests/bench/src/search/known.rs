@@ -24,7 +24,7 @@ fn dearest_add() -> Case {
     let limits = Limits {
         accel: [20_000_000, 12_000, 3_000],
         speed: [500_000, 200_000, 150_000],
-        jump: 1_000_000,
+        jump: 500_000,
         chord: 2,
         tick: 6_000,
     };

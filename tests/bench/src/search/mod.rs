@@ -105,10 +105,9 @@ impl Search {
         let begins = generation.is_multiple_of(GENERATIONS);
         if begins {
             let returns = (generation / GENERATIONS).is_multiple_of(RETURN);
-            self.kept = if returns {
-                self.climbs.clone()
-            } else {
-                Vec::new()
+            self.kept = match returns {
+                true => self.climbs.clone(),
+                false => Vec::new(),
             };
         }
         let cases = self.cases();
@@ -145,8 +144,8 @@ impl Search {
     }
 
     /// The cases of the next generation: changes of the kept, mixtures of two, and
-    /// new ones, all of them new where none is kept. The first generation has
-    /// those known from longer searches.
+    /// new ones, all of them new where none is kept. The first generation has the
+    /// dearest known.
     fn cases(&mut self) -> Vec<Case> {
         let mut cases = match self.tried {
             0 => known::cases(self.goal),
