@@ -10,7 +10,7 @@ from .sizes import VERSION, VERSION_TEXT
 
 VARIABLE = "FULLERECRU_LIBRARY"
 FILE = "libfullerecru.so"
-LOADED_NAME = "libfullerecru.so.0.10"
+LOADED_NAME = f"{FILE}.{VERSION_TEXT.rsplit('.', 1)[0]}"  # its soname: while major is 0, with minor
 
 NUMBER, SIGNED, DOUBLE, SIZE = ctypes.c_uint64, ctypes.c_int64, ctypes.c_double, ctypes.c_size_t
 BYTES = ctypes.c_char_p  # lent to be read: a bytes object; to be written: a string buffer

@@ -58,12 +58,11 @@ class Library(unittest.TestCase):
         self.assertEqual((answer.stdout, answer.stderr), (f"{VERSION}\n", ""))
 
     def test_other_version(self):
-        sizes = self.outside / "fullerecru" / "sizes.py"
-        text = sizes.read_text(encoding="utf-8")
-        other = text.replace("VERSION = 10_000", "VERSION = 9_000").replace('"0.10.0"', '"0.9.0"')
-        sizes.write_text(other, encoding="utf-8")
+        with open(self.outside / "fullerecru" / "sizes.py", "a", encoding="utf-8") as sizes:
+            sizes.write('\nVERSION, VERSION_TEXT = 999_999_999_999, "another one"\n')
         answer = asked(self.outside, FULLERECRU_LIBRARY=_library.path())
-        self.assertIn("has version 0.10.0, and this module is for 0.9.0", answer.stderr)
+        told = f"has version {_library.version_text(VERSION)}, and this module is for another one"
+        self.assertIn(told, answer.stderr)
 
     def test_another_library(self):
         maps = Path("/proc/self/maps").read_text()
