@@ -9,7 +9,8 @@
 //! files of tapes; `devices` has what they can be made to read from. `words` has
 //! the lists of numbers that stand for limits, blocks and blocks given out,
 //! `traces` runs a trace on the reference as the library does, `lines` plans
-//! blocks on both, and `texts` compares the records of a text. `ring` is a
+//! blocks on both, `tapes` has tapes and what a function leaves in a list lent
+//! for one, and `texts` compares the records of a text. `ring` is a
 //! planner's memory by the promise of its calls, and `memories` has memories of
 //! every kind for it; `hosts` has both for the numbers of a host.
 //!
@@ -26,6 +27,7 @@ pub mod pages;
 pub mod programs;
 pub mod proved;
 pub mod ring;
+pub mod tapes;
 pub mod texts;
 pub mod traces;
 pub mod words;

@@ -5,16 +5,16 @@ use std::collections::BTreeSet;
 
 use compare::library::{LISTED, VERSION};
 use compare::proved::{self, Planner};
+use compare::tapes::{cut_tapes, examples_and_longest, filled, some_tape};
 use compare::words::{given_words, some_steps};
 use compare::{first_seed, hex, report, same, seeds, Trying};
-use reference::examples::{example, example_steps, right_angle, NAMES, STEP_NAMES};
+use reference::examples::{example_steps, right_angle, STEP_NAMES};
 use reference::generate::*;
 use reference::line::{LookAhead, PLACES};
 use reference::machine::Block;
-use reference::refusal::Fault;
 use reference::rng::Rng;
 use reference::tape::{
-    pack_limits, read_limits, read_tape, Tape, LIMITS_BYTES, MOST_BLOCKS, MOST_BYTES, RECORD_BYTES,
+    pack_limits, read_limits, read_tape, Tape, LIMITS_BYTES, MOST_BLOCKS, RECORD_BYTES,
 };
 use reference::tape_list;
 
@@ -28,22 +28,12 @@ fn records(bytes: usize) -> usize {
     bytes.saturating_sub(LIMITS_BYTES) / RECORD_BYTES
 }
 
-/// The answer and what a list of `n` 77s holds after it.
-fn listed(
-    list: impl Fn(&[u8], &[u8], &mut [u64]) -> Result<(), Fault>,
-    (tape, steps): (&[u8], &[u8]),
-    n: usize,
-) -> (Result<(), Fault>, Vec<u64>) {
-    let mut rows = vec![77; n];
-    (list(tape, steps, &mut rows), rows)
-}
-
 /// Compares answer, place and rows of a tape in a list of `n` numbers, which a
 /// refusal leaves as it was; gives number and place, 0 and 0 if accepted.
 fn compare(seed: u64, (tape, steps): (&[u8], &[u8]), n: usize) -> (u64, u64) {
     let input = || format!("{} under {} in {n} numbers", hex(tape), hex(steps));
-    let found = listed(proved::list_tape, (tape, steps), n);
-    let known = listed(tape_list::list_tape, (tape, steps), n);
+    let found = filled(proved::list_tape, (tape, steps), n);
+    let known = filled(tape_list::list_tape, (tape, steps), n);
     same(seed, input, &found, &known);
     let Err(fault) = found.0 else {
         return (0, 0);
@@ -55,24 +45,10 @@ fn compare(seed: u64, (tape, steps): (&[u8], &[u8]), n: usize) -> (u64, u64) {
 /// The rows of a tape that passes.
 fn rows(tape: &[u8], steps: &[u8]) -> Vec<[u64; LISTED]> {
     let n = LISTED * records(tape.len());
-    let (answer, numbers) = listed(proved::list_tape, (tape, steps), n);
+    let (answer, numbers) = filled(proved::list_tape, (tape, steps), n);
     assert_eq!(answer, Ok(()));
     let row = |row: &[u64]| row.try_into().expect("13 numbers");
     numbers.chunks(LISTED).map(row).collect()
-}
-
-/// An accepted tape of one of the kinds that there are, with steps that pass.
-fn some_tape(seed: u64) -> (Vec<u8>, Vec<u8>) {
-    let mut rng = Rng::new(seed);
-    let steps = steps(&mut rng);
-    let count = rng.spread(0, 120) as usize;
-    let (limits, blocks) = match seed % 6 {
-        0 => tight_path(&mut rng, count),
-        1 => path_at_edges(&mut rng, count),
-        2 => return (tied_tape(&mut rng), steps),
-        _ => return (tape(&mut rng), steps),
-    };
-    (Tape { limits, blocks }.pack(), steps)
 }
 
 /// A list length that is not the right one: near it, or that of another count.
@@ -149,7 +125,7 @@ fn each_place_of_the_longest_tape_is_told() {
             let mut bytes = whole.clone();
             spoil_record(&mut rng, &mut bytes, place, faults);
             let n = rng.pick(&[LISTED * MOST_BLOCKS, MOST_BLOCKS + 1, 0]);
-            let (answer, rows) = listed(proved::list_tape, (&bytes, &steps(&mut rng)), n);
+            let (answer, rows) = filled(proved::list_tape, (&bytes, &steps(&mut rng)), n);
             let told = answer.map_err(|fault| (fault.refusal.number(), fault.place));
             assert_eq!(told, Err((faults[0], place as u64)), "seed {seed}");
             assert!(rows.iter().all(|number| *number == 77), "seed {seed}");
@@ -161,10 +137,7 @@ fn each_place_of_the_longest_tape_is_told() {
 /// Each length of an accepted tape, byte by byte, and around the longest.
 #[test]
 fn cut_and_lengthened_tapes_are_answered_alike() {
-    let blocks = short_steps(first_seed(), MOST_BLOCKS + 2);
-    let limits = machine_m();
-    let bytes = Tape { limits, blocks }.pack();
-    let lengths: Vec<usize> = (0..140).chain(MOST_BYTES - 18..=MOST_BYTES + 18).collect();
+    let (bytes, lengths) = cut_tapes();
     let mut met = BTreeSet::new();
     for (length, seed) in lengths.iter().zip(seeds(lengths.len() as u64)) {
         let _trying = Trying::seed(seed);
@@ -202,23 +175,8 @@ fn lists_of_every_length_are_answered_alike() {
 /// the example's steps and loaded ones.
 #[test]
 fn examples_and_longest_tapes_have_the_same_rows() {
-    let mut tapes: Vec<Tape> = NAMES.iter().filter_map(|name| example(name)).collect();
-    assert_eq!(tapes.len(), NAMES.len());
-    let (first, limits) = (first_seed(), machine_m());
-    let mut rng = Rng::new(first);
-    for blocks in [
-        short_steps(first, MOST_BLOCKS),
-        straight_steps(first, MOST_BLOCKS),
-    ] {
-        tapes.push(Tape { limits, blocks });
-    }
-    for (limits, blocks) in [
-        tied_path(&mut rng, MOST_BLOCKS),
-        tight_path(&mut rng, MOST_BLOCKS),
-        path_at_edges(&mut rng, MOST_BLOCKS - 1),
-    ] {
-        tapes.push(Tape { limits, blocks });
-    }
+    let tapes = examples_and_longest();
+    let mut rng = Rng::new(first_seed());
     let soft = example_steps(STEP_NAMES[0]).expect("steps of that name");
     for (tape, seed) in tapes.iter().zip(seeds(tapes.len() as u64)) {
         let _trying = Trying::seed(seed);

@@ -5,16 +5,17 @@ use std::collections::BTreeSet;
 
 use compare::library::REPORT;
 use compare::proved::{self, Report};
+use compare::tapes::{cut_tapes, examples_and_longest, filled, some_tape};
 use compare::words::{any_word, some_steps};
 use compare::{first_seed, hex, report, same, seeds, Trying};
-use reference::examples::{example, right_angle, what_held, NAMES};
+use reference::examples::{right_angle, what_held};
 use reference::generate::*;
 use reference::machine::{Block, Machine};
 use reference::plan::from_rest;
 use reference::refusal::Fault;
 use reference::report::{self as known, Figures, JunctionCaps};
 use reference::rng::Rng;
-use reference::tape::{pack_limits, read_to_plan, Tape, LIMITS_BYTES, MOST_BLOCKS, MOST_BYTES};
+use reference::tape::{pack_limits, read_to_plan, Tape, LIMITS_BYTES, MOST_BYTES};
 
 /// The number on the display and the place of an answer; 0 and 0 if accepted.
 fn number<T>(answer: &Result<T, Fault>) -> (u64, u64) {
@@ -38,16 +39,6 @@ fn expected(tape: &[u8], steps: &[u8]) -> Reported {
     (own.add(tape, steps), own.numbers())
 }
 
-/// The answer and what a list of `n` 77s holds after it.
-fn held(
-    tell: impl Fn(&[u8], &[u8], &mut [u64]) -> Result<(), Fault>,
-    (tape, steps): (&[u8], &[u8]),
-    n: usize,
-) -> (Result<(), Fault>, Vec<u64>) {
-    let mut list = vec![77; n];
-    (tell(tape, steps, &mut list), list)
-}
-
 /// Inner junctions of a tape of so many bytes.
 fn inner(bytes: usize) -> usize {
     (bytes.saturating_sub(LIMITS_BYTES) / 16).saturating_sub(1)
@@ -66,12 +57,12 @@ fn compare(seed: u64, (tape, steps): (&[u8], &[u8]), n: usize) -> ([u64; 2], [u6
     let input = || format!("{} under {} in {n} numbers", hex(tape), hex(steps));
     let found = reported(tape, steps);
     same(seed, input, found, expected(tape, steps));
-    let listed = held(proved::held_by, (tape, steps), n);
+    let listed = filled(proved::held_by, (tape, steps), n);
     same(
         seed,
         input,
         &listed,
-        &held(known::held_by, (tape, steps), n),
+        &filled(known::held_by, (tape, steps), n),
     );
     let numbers = [number(&found.0).0, number(&listed.0).0];
     let (Ok(figures), Ok(())) = (found.0, listed.0) else {
@@ -83,20 +74,6 @@ fn compare(seed: u64, (tape, steps): (&[u8], &[u8]), n: usize) -> ([u64; 2], [u6
     assert_eq!(own.iter().sum::<u64>(), all[0].saturating_sub(1));
     assert_eq!(found.1, [&[1][..], &all].concat()[..], "seed {seed}");
     (numbers, own)
-}
-
-/// An accepted tape of one of the kinds that there are, with steps that pass.
-fn some_tape(seed: u64) -> (Vec<u8>, Vec<u8>) {
-    let mut rng = Rng::new(seed);
-    let steps = steps(&mut rng);
-    let count = rng.spread(0, 120) as usize;
-    let (limits, blocks) = match seed % 6 {
-        0 => tight_path(&mut rng, count),
-        1 => path_at_edges(&mut rng, count),
-        2 => return (tied_tape(&mut rng), steps),
-        _ => return (tape(&mut rng), steps),
-    };
-    (Tape { limits, blocks }.pack(), steps)
 }
 
 #[test]
@@ -140,10 +117,7 @@ fn faulty_tapes_have_the_same_refusal_and_place() {
 /// Each length of an accepted tape, byte by byte, and around the longest.
 #[test]
 fn cut_and_lengthened_tapes_are_answered_alike() {
-    let blocks = short_steps(first_seed(), MOST_BLOCKS + 2);
-    let limits = machine_m();
-    let bytes = Tape { limits, blocks }.pack();
-    let lengths: Vec<usize> = (0..140).chain(MOST_BYTES - 18..=MOST_BYTES + 18).collect();
+    let (bytes, lengths) = cut_tapes();
     for (length, seed) in lengths.iter().zip(seeds(lengths.len() as u64)) {
         let _trying = Trying::seed(seed);
         let steps = some_steps(&mut Rng::new(seed));
@@ -176,22 +150,8 @@ fn lists_of_every_length_are_answered_alike() {
 
 #[test]
 fn examples_and_longest_tapes_have_the_same_figures() {
-    let mut tapes: Vec<Tape> = NAMES.iter().filter_map(|name| example(name)).collect();
-    let (first, limits) = (first_seed(), machine_m());
-    let mut rng = Rng::new(first);
-    for blocks in [
-        short_steps(first, MOST_BLOCKS),
-        straight_steps(first, MOST_BLOCKS),
-    ] {
-        tapes.push(Tape { limits, blocks });
-    }
-    for (limits, blocks) in [
-        tied_path(&mut rng, MOST_BLOCKS),
-        tight_path(&mut rng, MOST_BLOCKS),
-        tied_path(&mut rng, MOST_BLOCKS - 1),
-    ] {
-        tapes.push(Tape { limits, blocks });
-    }
+    let tapes = examples_and_longest();
+    let mut rng = Rng::new(first_seed());
     for (tape, seed) in tapes.iter().zip(seeds(tapes.len() as u64)) {
         let _trying = Trying::seed(seed);
         let bytes = tape.pack();
@@ -390,7 +350,7 @@ fn expect_worked((tape, figures, junctions): &Worked, steps: &[u8]) {
     let (answer, numbers) = reported(tape, steps);
     assert_eq!(answer.map(|own| own.numbers()), Ok(*figures));
     assert_eq!(numbers, [&[1][..], figures].concat()[..]);
-    let listed = held(proved::held_by, (tape, steps), junctions.len());
+    let listed = filled(proved::held_by, (tape, steps), junctions.len());
     assert_eq!(listed, (Ok(()), junctions.clone()));
 }
 
@@ -469,7 +429,7 @@ fn lists_fit_the_plan() {
         let (machine, blocks): (Machine, Vec<Block>) = read_to_plan(&tape, &steps).expect("a tape");
         let mut plan = vec![77; blocks.len() + 1];
         proved::plan_tape(&tape, &steps, &mut plan).expect("a tape that passes");
-        let (_, list) = held(proved::held_by, (&tape, &steps), inner(tape.len()));
+        let (_, list) = filled(proved::held_by, (&tape, &steps), inner(tape.len()));
         for ((pair, plan), by) in blocks.windows(2).zip(&plan[1..]).zip(&list) {
             let caps = JunctionCaps::of(&machine.limits, &pair[0], &pair[1]);
             let own = [Some(caps.feed), caps.corner, caps.chord];
