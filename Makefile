@@ -16,7 +16,7 @@ SHARED = libfullerecru.so.$(VERSION)
 SONAME = libfullerecru.so.$(SO_VERSION)
 LINKS = $(LIB)/$(SONAME) $(LIB)/libfullerecru.so
 
-#: lib        the static and the shared library, in target/lib (4 min; 1 s where nothing changed)
+#: lib        the static and the shared library, in target/lib (5 min; 1 s where nothing changed)
 lib:
 	@tools/needs 'make lib' bash rt cc ld
 	@tools/archive fullerecru
@@ -74,12 +74,12 @@ bench:
 	@tools/prove check planlist ngctape planorders
 	@tests/bench/run
 
-#: contracts  docs/CONTRACTS.txt, every public function with its contract, written again (5 s)
+#: contracts  docs/CONTRACTS.txt, every public function with its contract, written again (1 s)
 contracts:
 	@tools/needs 'make contracts' bash
 	@tools/whole docs/CONTRACTS.txt tools/contracts
 
-#: picture    docs/plan.svg, the plan of the tape PICTURED= under TITLE=, drawn again (5 s behind make lib)
+#: picture    docs/plan.svg, the plan of the tape PICTURED= under TITLE=, drawn again (2 s behind make lib)
 picture:
 	@tools/needs 'make picture' bash rt cc ld python3
 	@$(MAKE) --no-print-directory lib
@@ -93,7 +93,7 @@ REFERENCE = env CARGO_TARGET_DIR=$(CURDIR)/target/reference cargo run --quiet --
 # planreport, and what these, planlist and planreplay must write.
 REPORTED = crates/planreport
 
-#: expected   the stored cases and answers of the programs, made again by the independent implementation (1 min)
+#: expected   the stored cases and answers of the programs, made again by the independent implementation (10 s)
 expected:
 	@tools/needs 'make expected' bash cargo rustc
 	tools/whole crates/machine_run/stdin $(REFERENCE) machine_expect -- cases
@@ -118,7 +118,7 @@ STEPS = examples/steps/soft-motors.steps
 TEXTS = examples/text/pocket-with-boss.ngc
 ORDERS = examples/orders/cam-host.orders
 
-#: examples   the example tapes, traces, torque steps, texts and orders, made again (1 min)
+#: examples   the example tapes, traces, torque steps, texts and orders, made again (10 s)
 examples: $(TAPES) $(TRACES) $(STEPS) $(TEXTS) $(ORDERS)
 
 .PHONY: $(TAPES) $(TRACES) $(STEPS) $(TEXTS) $(ORDERS) example-tools
@@ -129,7 +129,7 @@ $(TAPES) $(TRACES) $(STEPS) $(TEXTS) $(ORDERS): example-tools
 example-tools:
 	@tools/needs 'make examples' bash cargo rustc
 
-#: fmt        lays the sources out (5 s)
+#: fmt        lays the sources out (1 s)
 fmt:
 	@tools/needs 'make fmt' rt
 	@rt fmt
