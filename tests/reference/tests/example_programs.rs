@@ -8,9 +8,11 @@ use reference::machine::{Block, Given, Limits, Ramp};
 use reference::orders::Event;
 use reference::report::{held_by, Report};
 use reference::tape::{plan_tape, read_limits, read_record, LIMITS_BYTES, RECORD_BYTES};
+use reference::tape_list::{list_tape, LISTED};
 use reference::text::{text_blocks, text_tape};
 
 const FEED_TEXT: &str = include_str!("../../../examples/c/expected.txt");
+const SERVO_TEXT: &str = include_str!("../../../examples/c/servo-expected.txt");
 const PAIR_TEXT: &str = include_str!("../../../examples/rust/expected.txt");
 
 /// feed.c's row: moves X, Y, Z and radius, µm; and how many it holds ahead.
@@ -236,6 +238,85 @@ fn orders_text() -> String {
     text
 }
 
+/// The pair's list, and the refusal of one with too little room.
+fn list_text() -> String {
+    let tape = right_angle().pack();
+    let mut rows = [0; 2 * LISTED];
+    list_tape(&tape, &[], &mut rows).unwrap();
+    let mut text = String::new();
+    for row in rows.chunks(LISTED) {
+        let [mark, peak, cap, junction] = [2, 7, 11, 12].map(|k| row[k]);
+        text += &format!("listed mark {mark} peak {peak} cap {cap} junction cap {junction}\n");
+    }
+    let fault = list_tape(&tape, &[], &mut rows[..LISTED]).unwrap_err();
+    let number = fault.refusal.number();
+    text + &format!("listed with too little room: refused by {number}, list\n")
+}
+
+/// servo.c's path: moves X, Y, Z, µm, and feed, µm/s; it prints each tenth tick.
+const PATH: [([i64; 3], u64); 4] = [
+    ([1000, 0, 0], 20_000),
+    ([0, 1000, 0], 20_000),
+    ([300, 300, 5], 8_000),
+    ([2000, -700, 0], 20_000),
+];
+const EACH: u32 = 10;
+
+/// Way along a block t seconds behind its begin, µm, and how long it takes, s: under
+/// the least of the three squared speeds that the header names.
+fn way(given: &Given, t: f64) -> (f64, f64) {
+    let [entry, peak, exit] =
+        [given.entry, given.ramp.peak, given.exit].map(|squared| (squared as f64).sqrt());
+    let accel = given.accel as f64;
+    let (up, down) = ((peak - entry) / accel, (peak - exit) / accel);
+    let risen = (peak * peak - entry * entry) / (2.0 * accel);
+    let fallen = (peak * peak - exit * exit) / (2.0 * accel);
+    let cruise = (given.length as f64 - risen - fallen).max(0.0) / peak;
+    let all = up + cruise + down;
+    let left = all - t;
+    let s = if t < up {
+        entry * t + accel * t * t / 2.0
+    } else if left > down {
+        risen + peak * (t - up)
+    } else {
+        given.length as f64 - exit * left - accel * left * left / 2.0
+    };
+    (s, all)
+}
+
+/// What servo.c prints: where the table is at each tenth tick, and where it ends.
+fn servo_text() -> String {
+    let limits = machine_m();
+    let mut line = Line::fresh(&limits, &[]).unwrap();
+    for ((moves, feed), mark) in PATH.into_iter().zip(1..) {
+        let block = Block {
+            moves,
+            feed,
+            radius: 0,
+            mark,
+        };
+        line.add(&block).unwrap();
+    }
+    let tick = limits.tick as f64 * 1e-6;
+    let (mut text, mut start, mut begun, mut ticks) = (String::new(), [0.0; 3], 0.0, 0);
+    while let Ok(given) = line.take() {
+        let lasts = way(&given, 0.0).1;
+        while f64::from(ticks) * tick - begun < lasts {
+            let now = f64::from(ticks) * tick;
+            let part = way(&given, now - begun).0 / given.length as f64;
+            let at = |axis: usize| start[axis] + given.block.moves[axis] as f64 * part;
+            if ticks % EACH == 0 {
+                text += &format!("{now:.3} s {:.1} {:.1} {:.1}\n", at(0), at(1), at(2));
+            }
+            ticks += 1;
+        }
+        begun += lasts;
+        (0..3).for_each(|axis| start[axis] += given.block.moves[axis] as f64);
+    }
+    let [x, y, z] = start;
+    text + &format!("at rest at {x:.1} {y:.1} {z:.1} µm\n")
+}
+
 /// What pair.rs prints: the pair's plan, its blocks, and a take too many.
 fn pair_text() -> String {
     let pair = right_angle();
@@ -257,11 +338,17 @@ fn c_example_prints_these_numbers() {
         FEED_TEXT,
         row_text()
             + &tape_text()
+            + &list_text()
             + &report_text()
             + &trace_text()
             + &text_text()
             + &orders_text()
     );
+}
+
+#[test]
+fn servo_example_prints_these_places() {
+    assert_eq!(SERVO_TEXT, servo_text());
 }
 
 #[test]
