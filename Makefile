@@ -1,7 +1,7 @@
 # Each target has a line '#: TARGET  what it does (how long it takes)', which `make` prints. Each looks
 # for the tools that it needs before it does anything (tools/needs), and writes a file of the repository
 # whole or not at all (tools/whole).
-.PHONY: help lib install uninstall run test bench contracts picture examples expected fmt clean
+.PHONY: help lib install uninstall run programs test bench contracts picture examples expected fmt clean
 
 help:
 	@echo 'Fullerecru $(VERSION). Times are those of two cores; what did not change is not proved again.'
@@ -60,6 +60,14 @@ uninstall:
 run:
 	@tools/needs 'make run' bash rt
 	@tools/list "$$TAPE"
+
+# The programs for users; the others of crates/ are for tests.
+PROGRAMS = planlist ngctape planreplay planreport planorders
+
+#: programs   planlist, ngctape, planreplay, planreport and planorders, in target/bin (6 min)
+programs:
+	@tools/needs 'make programs' bash rt
+	@tools/prove check $(PROGRAMS)
 
 #: test       every check, from nothing: it EMPTIES target/ first (30 min); ends in 'N passed, M failed'
 test:
