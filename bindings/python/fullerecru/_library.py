@@ -14,7 +14,8 @@ LOADED_NAME = f"{FILE}.{VERSION_TEXT.rsplit('.', 1)[0]}"  # its soname: while ma
 
 NUMBER, SIGNED, DOUBLE, SIZE = ctypes.c_uint64, ctypes.c_int64, ctypes.c_double, ctypes.c_size_t
 BYTES = ctypes.c_char_p  # lent to be read: a bytes object; to be written: a string buffer
-_NUMBERS, _MOVES, _DOUBLES = map(ctypes.POINTER, (NUMBER, SIGNED, DOUBLE))
+_NUMBERS, _MOVES = ctypes.POINTER(NUMBER), ctypes.POINTER(SIGNED)
+_DOUBLES = ctypes.POINTER(DOUBLE)
 _BLOCK = [SIGNED] * 3 + [NUMBER] * 3
 _TAPE = [BYTES, SIZE, BYTES, SIZE, _NUMBERS, SIZE, _NUMBERS]
 _ORDER = [_NUMBERS, _NUMBERS, _DOUBLES, _DOUBLES]

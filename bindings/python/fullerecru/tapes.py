@@ -37,7 +37,7 @@ def write_limits(limits: Limits) -> bytes:
     """The 24 bytes of limits. Refuses by 1."""
     room = _lent.room(LIMITS_BYTES)
     _lent.accept(function("write_limits")(_lent.limits_numbers(limits), room, LIMITS_BYTES))
-    return room.raw
+    return bytes(room.raw)
 
 
 def read_record(data: _lent.Bytes) -> Block:
@@ -52,7 +52,7 @@ def write_record(block: Block) -> bytes:
     """The 16 bytes of a block. Refuses by 2, 3, 4, 5, 6 in that order."""
     room = _lent.room(RECORD_BYTES)
     _lent.accept(function("write_record")(*_lent.block_numbers(block), room, RECORD_BYTES))
-    return room.raw
+    return bytes(room.raw)
 
 
 def write_tape(limits: Limits, blocks: Sequence[Block]) -> bytes:
