@@ -24,11 +24,13 @@
  * doubles and bytes are answered: the ranges below are checked, not required.
  *
  * What the model leaves open: the acceleration limits hold along each block; at a junction the
- * velocity may step by as much as the corner jump J, and short chords make many such steps. On a
- * circle whose chords come without their radius, v²/R can pass the acceleration limits many times.
- * With the radius, v²/R is below 8 × E / T² (chord tolerance E, tick T). Give each chord its
- * radius, and choose 8 × E / T² at most the acceleration limit and J at most acceleration limit ×
- * tick. Between moves of a few µm a corner may have no cap, since lengths are rounded down.
+ * velocity may step by the corner jump J and, since lengths are rounded down, by somewhat more: with
+ * lengths L and L' in µm the square of the step is at most J² + 2 × v² × (1/L + 1/L'), and a small turn
+ * may have no cap at all. Short chords make many such steps: on a circle whose chords come without
+ * their radius, v²/R can pass the acceleration limits many times. With the radius, v²/R is below
+ * 8 × E / T² (chord tolerance E, tick T). Give each chord its radius, and choose 8 × E / T² at most the
+ * acceleration limit and J at most acceleration limit × tick. T is used in that rule alone, so where
+ * the drive's tick is too short for it, give a longer one.
  *
  * Between ticks: a servo loop works out where the table is in a block that was handed out. At way s
  * along it, from 0 to its length, each axis is at the block's start + move * s / length, with the
@@ -41,10 +43,12 @@
  *
  * Feed override, feed hold and abort are not in the planner; a block that was handed out stays as it
  * is. What to do instead:
- * - Override below 100 % and hold: let the clock of the servo loop run slower, by a factor q. Speeds
- *   become q and accelerations q * q times the plan's, so all limits are kept while q is steady; while
- *   it changes, the path's acceleration has v * q' more, v the plan's speed and q' the change of q in a
- *   second, so let q fall and rise slowly enough for the axes to bear both. q = 0 is a hold.
+ * - Override below 100 % and hold: let the clock of the servo loop run slower, by a factor q from 1
+ *   down to 0, which is a hold. Speeds become q and accelerations q * q times the plan's, so all limits
+ *   are kept while q is steady. While it changes, the path's acceleration has v * q' more, v the plan's
+ *   speed and q' the change of q in a second. The plan may use the whole acceleration of an axis, so
+ *   keep a reserve r: give fullerecru_fresh accelerations lower by r than the axes bear, and let q
+ *   change by at most r / v in a second.
  * - Override above 100 %: add later blocks with a higher feed. Blocks held keep theirs.
  * - Abort: add no more and take what is held: the plan ends at rest with the last block. To leave the
  *   path at once, brake by the drives' own means, then make the planner fresh, since it begins at
@@ -151,8 +155,9 @@ enum fullerecru_given {
     FULLERECRU_LISTED_JUNCTION_CAP = 12
 };
 
-/* The row that answers a call of a trace: the number on the display; moves X, Y, Z; then the numbers
- * of a block given out, enum fullerecru_given from FULLERECRU_ANSWER_GIVEN on. */
+/* The row that answers a call of a trace: the number on the display; moves X, Y, Z, each of which a
+ * cast to int32_t makes signed; then the numbers of a block given out, enum fullerecru_given from
+ * FULLERECRU_ANSWER_GIVEN on. */
 enum fullerecru_answer {
     FULLERECRU_ANSWER_NUMBER = 0,
     FULLERECRU_ANSWER_MOVE_X = 1,
@@ -192,13 +197,13 @@ enum fullerecru_refusal {
     FULLERECRU_REFUSED_LIMITS = 1,
     /* all three moves 0 */
     FULLERECRU_REFUSED_STILL = 2,
-    /* a move beyond its range */
+    /* a move beyond ±1,000,000 µm */
     FULLERECRU_REFUSED_LONG = 3,
-    /* feed 0 or too high */
+    /* feed 0, or above 1,000,000 µm/s */
     FULLERECRU_REFUSED_FEED = 4,
-    /* radius too large */
+    /* radius above 10,000,000 µm */
     FULLERECRU_REFUSED_RADIUS = 5,
-    /* mark too large */
+    /* mark above 2,097,151 */
     FULLERECRU_REFUSED_MARK = 6,
     /* 64 blocks held */
     FULLERECRU_REFUSED_FULL = 7,
@@ -262,7 +267,11 @@ uint64_t fullerecru_version(void);
  * FULLERECRU_BUILT_IN stands for pointer and count of none, as in
  * fullerecru_fresh(memory, limits, FULLERECRU_BUILT_IN); the pointer must not be null there either.
  * The bytes are read during the call only. */
+#ifdef __cplusplus
+#define FULLERECRU_BUILT_IN reinterpret_cast<const uint8_t *>(""), static_cast<size_t>(0)
+#else
 #define FULLERECRU_BUILT_IN (const uint8_t *)"", (size_t)0
+#endif
 
 /* The planner: 64 places in memory of the caller, who keeps its 781 numbers from call to call.
  * These functions alone write them. */
@@ -284,16 +293,17 @@ uint64_t fullerecru_fresh(uint64_t memory[FULLERECRU_NUMBERS],
  * of the curve that the block is a chord of: 0 to 10,000,000 µm, 0 for no curve. mark: a label of
  * the caller's, 0 to 2,097,151.
  *
- * The corner between two blocks is judged by their lengths in whole µm, rounded down. Between moves
- * of a few µm the step of the real velocity may pass the corner jump, and a turn may have no cap:
- * (1,1,1) then (1,1,-1) has none.
+ * The corner between two blocks is judged by their lengths in whole µm, rounded down; a small turn may
+ * have no cap ("What the model leaves open" above), as (1,1,1) then (1,1,-1).
  *
  * Refuses by 2, 3, 4, 5, 6, 7 in that order. Accepted, it writes the memory. */
 uint64_t fullerecru_add(uint64_t memory[FULLERECRU_NUMBERS], int64_t x, int64_t y, int64_t z,
                         uint64_t feed, uint64_t radius, uint64_t mark);
 
 /* Takes the first block out and gives it to the caller. The speed at its end becomes the
- * committed one: every later plan begins with it.
+ * committed one: every later plan begins with it. Take as late as the loop allows: the plan ends at
+ * rest with the last block held, so a block taken with none behind it ends at rest, whatever is added
+ * later, and with few behind it may end slower than it could.
  *
  * moves: X, Y, Z, µm. numbers: enum fullerecru_given, the first eleven. The lengths run speeding
  * up, at the peak and braking are the ramp, and add up to the length. The length is rounded down to

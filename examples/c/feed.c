@@ -5,7 +5,7 @@
  * tape of a program in RS-274 text, and carries out the orders of a host in doubles. Every function of
  * the header is called.
  *
- *     cc -std=c99 -Iinclude examples/c/feed.c target/staticlib/libfullerecru.a -o target/feed
+ *     cc -std=c99 -Iinclude examples/c/feed.c target/lib/libfullerecru.a -o target/feed
  */
 #include <inttypes.h>
 #include <stdio.h>

@@ -1,7 +1,7 @@
 /* A servo loop: takes block after block from a planner and works out at each tick where the table is, as
  * include/fullerecru.h says ("Between ticks"). Every tenth tick is printed: the time, and X, Y, Z in µm.
  *
- *     cc -std=c99 -Iinclude examples/c/servo.c target/staticlib/libfullerecru.a -lm -o target/servo
+ *     cc -std=c99 -Iinclude examples/c/servo.c target/lib/libfullerecru.a -lm -o target/servo
  */
 #include <inttypes.h>
 #include <math.h>

@@ -63,8 +63,27 @@ class Outputs(InFolder):
 
     def test_over_its_own_input(self):
         path = self.file("machine", MACHINE.read_bytes())
-        self.assertEqual(self.called("limits", path, "-o", path), (0, ""))
-        self.assertEqual(len(path.read_bytes()), 24)
+        link = self.folder / "link"
+        link.symlink_to(path)
+        for out in (path, link):
+            status, said = self.called("limits", path, "-o", out)
+            self.assertEqual(status, 1)
+            self.assertIn("machine: it is read here, and would be overwritten", said)
+            self.assertEqual(path.read_bytes(), MACHINE.read_bytes())
+
+    def test_write_protected(self):
+        path = self.file("old", b"old")
+        path.chmod(0o444)
+        status, said = self.called("limits", MACHINE, "-o", path)
+        self.assertEqual(status, 1)
+        self.assertIn("old: it is write-protected", said)
+        self.assertEqual(path.read_bytes(), b"old")
+
+    def test_mode_of_the_old_file_stays(self):
+        path = self.file("old", b"old")
+        path.chmod(0o600)
+        self.assertEqual(self.called("limits", MACHINE, "-o", path), (0, ""))
+        self.assertEqual((len(path.read_bytes()), path.stat().st_mode & 0o777), (24, 0o600))
 
     def test_link(self):
         target, link = self.file("target", b"old"), self.folder / "link"

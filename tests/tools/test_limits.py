@@ -88,8 +88,16 @@ class Faults(InFolder):
             self.assertIn("refused by 1 (limits)", said)
 
     def test_no_number_of_the_library(self):
-        self.assertIn("bad.limits:11: tick = -4 ms: tick must be", self.said("4 ms", "-4 ms"))
-        self.assertIn("bad.limits:11: ", self.said("4 ms", f"{2**64} us"))
+        why = "refused by 1 (limits): tick is from 100 to 10,000 µs"
+        for tick in ("-4 ms", "20 ms", f"{2**64} us"):
+            self.assertIn(f"bad.limits:11: tick = {tick}: {why}", self.said("4 ms", tick))
+
+    def test_ranges_are_the_library_s(self):
+        ranges = {"accel_x": (1, 20_000_000), "speed_z": (1, 1_000_000), "corner_jump": (1, 1_000_000),
+                  "chord_tolerance": (1, 1_000), "tick": (100, 10_000)}
+        for field, known in ranges.items():
+            found = tuple(limits.last_accepted(field, refused) for refused in (0, limits.BEYOND))
+            self.assertEqual(found, known)
 
     def test_missing(self):
         said = self.said("tick = 4 ms\n", "")

@@ -1,4 +1,5 @@
 """`tape` and `text`: tables of moves and programs in RS-274 text to tapes."""
+import codecs
 import subprocess
 import unittest
 
@@ -41,8 +42,20 @@ class Tables(InFolder):
         self.assertEqual(marks, [1, 2, 3, 4, 5, 6, 7, 100, 9])
 
     def test_no_moves(self):
-        tape = self.made("tape", MACHINE, self.file("t.csv", "x,y,z,feed\n"))
-        self.assertEqual(len(tape), 24)
+        out = self.folder / "out"
+        for words in (("tape", MACHINE, self.file("t.csv", "x,y,z,feed\n")), ("text", MACHINE, self.file("p.ngc", "\n"))):
+            status, said = self.called(*words, "-o", out)
+            self.assertEqual((status, out.stat().st_size), (0, 24))
+            self.assertIn("no block, so the tape has limits alone", said)
+
+    def test_blank_lines(self):
+        moves = "x,y,z,feed\n\n1,0,0,20\n   \n0,1,0,20\n"
+        self.assertEqual(len(self.made("tape", MACHINE, self.file("t.csv", moves))), 24 + 32)
+
+    def test_too_many(self):
+        moves = self.file("t.csv", "x,y,z,feed\n" + "1,0,0,20\n" * 2049)
+        said = self.fault("tape", MACHINE, moves)
+        self.assertIn("t.csv:2050: refused by 10 (many): more than 2,048 blocks", said)
 
 
 class TableFaults(InFolder):
@@ -62,8 +75,8 @@ class TableFaults(InFolder):
             ("1,0,0,20,,1.5", "mark: 1.5 is not a whole number"),
             ("1,,0,20,,", "y: '' is no number"),
             ("1,0,one,20,,", "z: 'one' is no number"),
-            ("1,0,0,-20,,", "feed must be from 0"),
-            ("1,0,0,20,-1,", "radius must be from 0"),
+            ("1,0,0,-20,,", "feed: -20 is below 0"),
+            ("1,0,0,20,-1,", "radius: -1 is below 0"),
             ("1,0,0,20", "4 values for 6 columns"),
             ('1,0,0,20,"', "unexpected end"),
         ]
@@ -115,12 +128,18 @@ class Texts(InFolder):
             self.assertEqual(self.made("text", limits, path), made)
 
     def test_refused(self):
-        text = self.file("p.ngc", "F60\nX1\nY 2\r\nM3\n")
+        text = self.file("p.ngc", "F60\nX1\nY\t2\nM3\n")
         said = self.fault("text", MACHINE, text)
         meaning = fullerecru.Refusal.NUMBER.meaning
-        self.assertIn(f"p.ngc:3: refused by 13 (number): {meaning}\n    Y 2\\r\n", said)
+        self.assertIn(f"p.ngc:3: refused by 13 (number): {meaning}\n    Y\\t2\n", said)
         text = self.file("p.ngc", b"F60\nX1\xff\n")
         self.assertIn("p.ngc:2: refused by 12 (word)", self.fault("text", MACHINE, text))
+
+    def test_line_ends_of_other_systems(self):
+        text = "F60\nX1\nY2\n"
+        plain = self.made("text", MACHINE, self.file("p.ngc", text))
+        other = codecs.BOM_UTF8 + text.replace("\n", "\r\n").encode()
+        self.assertEqual(self.made("text", MACHINE, self.file("q.ngc", other)), plain)
 
     def test_files(self):
         none = self.folder / "none"

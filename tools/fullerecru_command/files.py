@@ -6,6 +6,14 @@ import sys
 from fullerecru import Refused
 
 
+_READ = []  # names of the files that this run of the command has read
+
+
+def begin():
+    """Begins a run of the command: no file is read yet."""
+    _READ.clear()
+
+
 class Fault(Exception):
     """Bad input or a refusal: its text goes to standard error, and the exit status is 1."""
 
@@ -15,9 +23,9 @@ def at(name, line):
     return f"{name}:{line}"
 
 
-def refused(where, refusal):
-    """The fault of a refusal: where, number, word and meaning."""
-    return Fault(f"{where}: refused by {refusal.value} ({refusal.word}): {refusal.meaning}")
+def refused(where, refusal, why=None):
+    """The fault of a refusal: where, number, word, and why, else its meaning."""
+    return Fault(f"{where}: refused by {refusal.value} ({refusal.word}): {why or refusal.meaning}")
 
 
 def refused_tape(name, error: Refused):
@@ -28,6 +36,7 @@ def refused_tape(name, error: Refused):
 
 def read(name):
     """The bytes of a file."""
+    _READ.append(name)
     try:
         with open(name, "rb") as file:
             return file.read()
@@ -42,6 +51,11 @@ def as_text(name, data):
     except UnicodeDecodeError as error:
         line = data.count(b"\n", 0, error.start) + 1
         raise Fault(f"{at(name, line)}: not a text in UTF-8") from None
+
+
+def tell_empty(name):
+    """Says that a tape without blocks was made of a file."""
+    print(f"fullerecru: {name}: no block, so the tape has limits alone", file=sys.stderr)
 
 
 def write(out, data):
@@ -73,26 +87,40 @@ def is_text(data):
 
 
 def write_whole(out, fill):
-    """Has a file beside out filled, which takes its place when it is whole.
+    """Has a file beside out filled, which takes its place and its mode when it is whole.
 
-    What is no regular file, as /dev/null, is written as it is.
+    What is no regular file, as /dev/null, is written as it is. A file that was read is not
+    overwritten, nor one that is write-protected.
     """
     out = os.path.realpath(out)
     try:
-        if os.path.exists(out) and not stat.S_ISREG(os.stat(out).st_mode):
+        mode = os.stat(out).st_mode if os.path.exists(out) else None
+        if mode is not None and not stat.S_ISREG(mode):
             with open(out, "wb") as file:
                 fill(file)
             return
+        if mode is not None:
+            check_old(out, mode)
         beside = f"{out}.{os.getpid()}.part"
         try:
             with open(beside, "xb") as file:
                 fill(file)
+            if mode is not None:
+                os.chmod(beside, stat.S_IMODE(mode))
             os.replace(beside, out)
         except BaseException:
             remove(beside)
             raise
     except OSError as error:
         raise Fault(f"{out}: {error.strerror or error}") from None
+
+
+def check_old(out, mode):
+    """Raises a fault where the file that is there must stay."""
+    if any(os.path.exists(name) and os.path.samefile(name, out) for name in _READ):
+        raise Fault(f"{out}: it is read here, and would be overwritten")
+    if not mode & (stat.S_IWUSR | stat.S_IWGRP | stat.S_IWOTH) or not os.access(out, os.W_OK):
+        raise Fault(f"{out}: it is write-protected")
 
 
 def remove(name):

@@ -4,7 +4,7 @@ import re
 from dataclasses import replace
 from fractions import Fraction
 
-from fullerecru import Limits, Refused, read_limits, sizes, write_limits
+from fullerecru import Limits, Refusal, Refused, read_limits, sizes, write_limits
 
 from . import files, numerals
 
@@ -25,6 +25,8 @@ NAMES = {
 
 # Limits that the library accepts: a single value is judged among them.
 ACCEPTED = Limits(200_000, 200_000, 200_000, 1_000_000, 1_000_000, 1_000_000, 2_000, 1, 2_000)
+
+BEYOND = 1 << 40  # above every limit that is accepted
 
 LINE = re.compile(rf"(?P<name>[\w-]+)\s*=\s*(?P<value>\S*?)\s*(?P<unit>[^\W\d]\S*)?$")
 
@@ -49,7 +51,7 @@ def value_of(where, line):
         raise files.Fault(f"{where}: unknown name {name!r}; the names are {', '.join(NAMES)}")
     units = NAMES[name][1]
     if not value or not re.fullmatch(numerals.DECIMAL, value, re.ASCII):
-        raise files.Fault(f"{where}: {name}: {value or unit or ''!r} is no number")
+        raise files.Fault(f"{where}: {name}: {value or unit or ''!r} is no number such as 12 or 3.25")
     if unit is None or plain(unit) not in units:
         known = ", ".join(map(shown, units))
         raise files.Fault(f"{where}: {name}: {unit or 'no unit'}, but it needs one of {known}")
@@ -59,15 +61,37 @@ def value_of(where, line):
         raise files.Fault(f"{where}: {name}: {value} {unit}: {unfit}") from None
 
 
-def judge(where, name, value, line):
-    """Asks the library for a value among limits that are accepted otherwise."""
-    said = f"{where}: {line}"
+def accepts(field, value):
+    """Whether the library takes a value among limits that it accepts otherwise."""
     try:
-        write_limits(replace(ACCEPTED, **{NAMES[name][0]: value}))
-    except Refused as error:
-        raise files.refused(said, error.refusal) from None
-    except OverflowError as error:
-        raise files.Fault(f"{said}: {error}") from None
+        write_limits(replace(ACCEPTED, **{field: value}))
+    except (Refused, OverflowError):
+        return False
+    return True
+
+
+def last_accepted(field, refused):
+    """The last value that the library accepts on the way to one that it refuses."""
+    accepted = getattr(ACCEPTED, field)
+    while abs(refused - accepted) > 1:
+        middle = (accepted + refused) // 2
+        if accepts(field, middle):
+            accepted = middle
+        else:
+            refused = middle
+    return accepted
+
+
+def judge(where, name, value, line):
+    """Raises a fault with the range where the library refuses a value."""
+    field, units = NAMES[name]
+    if accepts(field, value):
+        return
+    least, most = (last_accepted(field, refused) for refused in (0, BEYOND))
+    unit = shown(next(iter(units)))
+    raise files.refused(
+        f"{where}: {line}", Refusal.LIMITS, f"{name} is from {least:,} to {most:,} {unit}"
+    )
 
 
 def parse(name, text):

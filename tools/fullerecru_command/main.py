@@ -27,8 +27,9 @@ example: tools/fullerecru tape examples/limits/machine-m.limits examples/moves/f
          tools/fullerecru tape --back examples/tapes/right-angle.tape
 """
 TEXT_HELP = """\
-PROGRAM.ngc has the words N, G0, G1, G20, G21, G90, G91, X, Y, Z and F of RS-274. LIMITS is a text of
-limits, or a file whose first 24 bytes are limits, as a tape's.
+PROGRAM.ngc has straight moves alone: the words N, G0, G1, G20, G21, G90, G91, X, Y, Z and F of RS-274,
+in capitals, with digits on both sides of a point; no comments, no %, no arcs, no M, S or T. Lines may
+end in CR LF. LIMITS is a text of limits, or a file whose first 24 bytes are limits, as a tape's.
 
 example: tools/fullerecru text examples/limits/machine-m.limits examples/text/pocket-with-boss.ngc \\
              -o pocket.tape
@@ -55,7 +56,9 @@ def parser():
     """The parser of the command line."""
     top = argparse.ArgumentParser(
         prog="fullerecru", description="Limits, tapes and texts in files, and the picture of a plan.",
-        epilog="example: tools/fullerecru plot examples/tapes/mould-row.tape -o plan.svg",
+        epilog="example: tools/fullerecru plot examples/tapes/mould-row.tape -o plan.svg\n\n"
+        "Exit status: 0 done, 1 bad input or a refusal, 2 wrong use.",
+        formatter_class=argparse.RawDescriptionHelpFormatter,
     )
     commands = top.add_subparsers(dest="command", required=True, metavar="COMMAND")
     one = sub_parser(commands, "limits", "a text of limits to 24 bytes, and back", LIMITS_HELP)
@@ -94,6 +97,7 @@ RUNS = {"limits": limits.run, "tape": moves.run, "text": texts.run, "plot": pict
 def main(words):
     """Does what the words ask for and returns the exit status."""
     arguments = asked(parser(), words)
+    files.begin()
     try:
         return RUNS[arguments.command](arguments) or 0
     except files.Fault as fault:

@@ -2,14 +2,15 @@
 import csv
 import io
 
-from fullerecru import Block, Refused, plan_tape, read_record, sizes, write_record
+from fullerecru import Block, Refusal, Refused, plan_tape, read_record, sizes, write_record
 
 from . import files, limits, numerals
 
-NEEDED = ("x", "y", "z", "feed")
+MOVES = ("x", "y", "z")
+NEEDED = MOVES + ("feed",)
 OPTIONAL = ("radius", "mark")
 COLUMNS = NEEDED + OPTIONAL
-BASE = {"feed": "µm/s", "mark": "1"}  # what a column counts; the others count µm
+BASE = {"feed": "µm/s", "mark": None}  # what a column counts; the others count µm
 
 
 def columns(name, header):
@@ -44,6 +45,8 @@ def block_of(where, names, values, place):
             numbers[column] = numerals.whole(value, size, BASE.get(column, "µm"))
         except numerals.Unfit as unfit:
             raise files.Fault(f"{where}: {column}: {unfit}") from None
+        if numbers[column] < 0 and column not in MOVES:
+            raise files.Fault(f"{where}: {column}: {value} is below 0")
     return Block(**numbers)
 
 
@@ -53,8 +56,8 @@ def record_of(where, block):
         return write_record(block)
     except Refused as error:
         raise files.refused(where, error.refusal) from None
-    except OverflowError as error:
-        raise files.Fault(f"{where}: {error}") from None
+    except OverflowError:
+        raise files.Fault(f"{where}: a number that is far too large") from None
 
 
 def records(name, text):
@@ -65,8 +68,10 @@ def records(name, text):
         for row in reader:
             if names is None:
                 names = columns(name, row)
-            elif row:
+            elif len(row) > 1 or "".join(row).strip():
                 where = files.at(name, reader.line_num)
+                if len(made) == sizes.MOST_BLOCKS:
+                    raise files.refused(where, Refusal.MANY, f"more than {sizes.MOST_BLOCKS:,} blocks")
                 made.append(record_of(where, block_of(where, names, row, len(made) + 1)))
     except csv.Error as error:
         raise files.Fault(f"{files.at(name, reader.line_num)}: {error}") from None
@@ -107,5 +112,7 @@ def run(arguments):
         return
     machine, name = arguments.files
     beginning = limits.of_file(machine)
-    tape = beginning + records(name, files.as_text(name, files.read(name)))
-    files.write(arguments.out, checked(name, tape))
+    made = records(name, files.as_text(name, files.read(name)))
+    files.write(arguments.out, checked(name, beginning + made))
+    if not made:
+        files.tell_empty(name)

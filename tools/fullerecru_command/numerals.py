@@ -11,11 +11,13 @@ class Unfit(Exception):
 
 
 def whole(numeral, size, base):
-    """How many of the base unit a numeral is, each of its own units being so many of them."""
+    """How many of the base unit, if it has one, a numeral is, its own unit being so many of them."""
     if not re.fullmatch(DECIMAL, numeral, re.ASCII):
-        raise Unfit(f"{numeral!r} is no number")
+        raise Unfit(f"{numeral!r} is no number such as 12, -0.5 or 3.25")
     exact = Fraction(numeral) * size
     if exact.denominator != 1:
+        if base is None:
+            raise Unfit(f"{numeral} is not a whole number")
         raise Unfit(f"{numeral} is not a whole number of {base}: it would be {float(exact):.9g}")
     return exact.numerator
 

@@ -1,4 +1,6 @@
 """A program in RS-274 text to a tape."""
+import codecs
+
 from fullerecru import Refused, text
 
 from . import files, limits
@@ -10,9 +12,15 @@ def visible(line):
     return "".join(one if one.isprintable() else repr(one)[1:-1] for one in said)
 
 
+def with_line_feeds(program):
+    """A text without a byte order mark, and with line feeds alone, as the library reads it."""
+    return program.removeprefix(codecs.BOM_UTF8).replace(b"\r\n", b"\n")
+
+
 def run(arguments):
     """`text`: limits and a program to a tape."""
-    beginning, program = limits.of_file(arguments.limits), files.read(arguments.program)
+    beginning = limits.of_file(arguments.limits)
+    program = with_line_feeds(files.read(arguments.program))
     try:
         records = text(program)
     except Refused as error:
@@ -23,3 +31,5 @@ def run(arguments):
         line = program.split(b"\n")[error.place - 1]
         raise files.Fault(f"{fault}\n    {visible(line)}") from None
     files.write(arguments.out, beginning + records)
+    if not records:
+        files.tell_empty(arguments.program)

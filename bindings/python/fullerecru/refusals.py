@@ -38,10 +38,10 @@ class Refusal(IntEnum):
 _MEANINGS = {
     Refusal.LIMITS: "a machine limit outside its range, or a zero bit of the tape's limits set",
     Refusal.STILL: "all three moves 0",
-    Refusal.LONG: "a move beyond its range",
-    Refusal.FEED: "feed 0 or too high",
-    Refusal.RADIUS: "radius too large",
-    Refusal.MARK: "mark too large",
+    Refusal.LONG: "a move beyond ±1,000,000 µm",
+    Refusal.FEED: "feed 0, or above 1,000,000 µm/s",
+    Refusal.RADIUS: "radius above 10,000,000 µm",
+    Refusal.MARK: "mark above 2,097,151",
     Refusal.FULL: "64 blocks held",
     Refusal.EMPTY: "take with none held",
     Refusal.RAGGED: (
