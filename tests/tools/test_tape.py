@@ -118,7 +118,7 @@ class TableFaults(InFolder):
 class Texts(InFolder):
     def test_examples(self):
         if not (PROGRAMS / "ngctape").is_file():
-            self.skipTest("target/bin/ngctape is not built (rt check ngctape)")
+            self.skipTest("target/bin/ngctape is not built (make programs)")
         for path in sorted((ROOT / "examples" / "text").glob("*.ngc")):
             with path.open("rb") as text:
                 made = subprocess.run([PROGRAMS / "ngctape", POCKET], stdin=text, check=True,
