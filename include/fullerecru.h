@@ -77,7 +77,7 @@ extern "C" {
  * library is told by fullerecru_version: they are made for each other where the two numbers are the
  * same. */
 #define FULLERECRU_VERSION_TEXT "0.10.0"
-enum { FULLERECRU_VERSION = 10000 };
+#define FULLERECRU_VERSION 10000
 
 enum {
     /* Numbers of 64 bits in a planner's memory. */

@@ -35,12 +35,14 @@ class Header(unittest.TestCase):
         self.assertGreater(len(told), 15)
         for name, number in told.items():
             self.assertEqual(getattr(sizes, name), number, name)
-        ours = {name for name in vars(sizes) if name.isupper()} - {"VERSION_TEXT"}
+        ours = {name for name in vars(sizes) if name.isupper()} - {"VERSION", "VERSION_TEXT"}
         self.assertEqual(ours, set(told))
 
     def test_version(self):
         text = re.search(r'FULLERECRU_VERSION_TEXT "(.*)"', HEADER).group(1)
         self.assertEqual(sizes.VERSION_TEXT, text)
+        number = re.search(r"^#define FULLERECRU_VERSION (\d+)$", HEADER, flags=re.M).group(1)
+        self.assertEqual(sizes.VERSION, int(number))
         self.assertEqual(_library.version_text(sizes.VERSION), text)
         self.assertTrue(_library.LOADED_NAME.endswith(".so." + text.rsplit(".", 1)[0]))
         project = (MODULE / "pyproject.toml").read_text(encoding="utf-8")

@@ -49,7 +49,7 @@ macro_rules! named {
 
 fn constants() -> Vec<(&'static str, u64)> {
     named![
-        VERSION NUMBERS PLACES LIMITS STEPS MOVES GIVEN RECORD HOST POINT REPORT FIGURES MOST_TAPES
+        NUMBERS PLACES LIMITS STEPS MOVES GIVEN RECORD HOST POINT REPORT FIGURES MOST_TAPES
         LISTED LIMITS_BYTES RECORD_BYTES MOST_BLOCKS MOST_TAPE CALL_BYTES ROW PLAN
         LIMIT_ACCEL_X LIMIT_ACCEL_Y LIMIT_ACCEL_Z LIMIT_SPEED_X LIMIT_SPEED_Y LIMIT_SPEED_Z
         LIMIT_CORNER_JUMP LIMIT_CHORD_TOLERANCE LIMIT_TICK
@@ -145,8 +145,11 @@ fn every_word_is_the_headers() {
 
 #[test]
 fn the_version_is_the_headers() {
-    let line = format!("#define FULLERECRU_VERSION_TEXT \"{VERSION_TEXT}\"");
-    assert!(header().contains(&line), "{line}");
+    let text = format!("#define FULLERECRU_VERSION_TEXT \"{VERSION_TEXT}\"\n");
+    let number = format!("#define FULLERECRU_VERSION {VERSION}\n");
+    for line in [text, number] {
+        assert!(header().contains(&line), "{line}");
+    }
     let parts: Vec<u64> = VERSION_TEXT
         .split('.')
         .map(|part| part.parse().unwrap())

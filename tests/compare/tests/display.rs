@@ -349,7 +349,7 @@ fn the_header_has_these_numbers_and_functions() {
     let called = functions(include_str!("../src/library.rs"));
     assert_eq!(functions(header), called);
     assert_eq!(called.len(), 22);
-    assert!(header.contains(&format!("enum {{ FULLERECRU_VERSION = {VERSION} }};")));
+    assert!(header.contains(&format!("#define FULLERECRU_VERSION {VERSION}\n")));
     let text = [1_000_000, 1_000, 1].map(|part| (VERSION / part % 1_000).to_string());
     let text = format!("FULLERECRU_VERSION_TEXT \"{}\"", text.join("."));
     assert!(header.contains(&text), "{text}");
