@@ -1,14 +1,16 @@
-// What the functions for C share: the numbers on the display of the planner's answers, a block's moves as three
-// numbers, and a list of one number.
+// What the functions for C share: the numbers on the display of the planner's answers and of planning a tape, with its place, a
+// block's moves as three numbers, and a list of one number.
 ghost use mathlib.Core.List.{_∷_, []};
 ghost use mathlib.Core.Path.{_≡_};
 ghost use lib.ListN.{length};
 ghost use Rattle.line.specs.Answers.{addMeans, answerNumber, showMeans};
+ghost use Rattle.tapeplan.specs.Planned.{plannedMeans};
 ghost use Rattle.fullerecru.specs.Moves.{blockMoves};
 use display::refusal_number;
 use line::AddAnswer;
 use line::ShowAnswer;
 use machine::Block;
+use tapeplan::TapePlanned;
 
 // The number on the display of an add's answer.
 pub fn added_number(a: AddAnswer) -> u64
@@ -49,4 +51,21 @@ pub fn put_number(list: &mut [u64], n: u64)
     ensures { λ r. ⌜ now (list .exit) ≡ n ∷ [] ⌝ }
 {
     list[0] = n;
+}
+
+// Stores the place of what planning a tape answers, and gives the number on the display.
+pub fn planned_number(a: TapePlanned, place: &mut [u64]) -> u64
+    requires { ⌜ length (now place) ≡ 1 ⌝ }
+    ensures { λ r. ⌜ (r ≡ plannedMeans a .number) × (now (place .exit) ≡ plannedMeans a .place ∷ []) ⌝ }
+{
+    match a {
+        TapePlanned::Planned => {
+            put_number(place, 0);
+            0
+        }
+        TapePlanned::Refused(why, at) => {
+            put_number(place, at as u64);
+            refusal_number(why)
+        }
+    }
 }

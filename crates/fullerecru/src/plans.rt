@@ -1,12 +1,12 @@
 // The plan of a whole tape, its list, and the run of a trace, for C. Bytes and lists are handed over as a
 // pointer and their length.
 ghost use Rattle.fullerecru.specs.Plans.{ListLent, PlanLent, ReplayLent};
+use crate::numbers::planned_number;
 use crate::numbers::put_number;
 use display::refusal_number;
 use listing::rows::list_tape;
 use replay::Replayed;
 use replay::replay;
-use tapeplan::TapePlanned;
 use tapeplan::whole::plan_tape;
 
 // Plans a whole tape from rest to rest with the torque steps of `fullerecru_fresh`: the list gets the
@@ -23,16 +23,7 @@ pub extern "C" fn fullerecru_plan_tape(
 ) -> u64
     ensures { λ r. ⌜ PlanLent (now (tape .entry)) (now (steps .entry)) r (now (list .entry)) (now (list .exit)) (now (place .exit)) ⌝ }
 {
-    match plan_tape(tape, steps, list) {
-        TapePlanned::Planned => {
-            put_number(place, 0);
-            0
-        }
-        TapePlanned::Refused(why, at) => {
-            put_number(place, at as u64);
-            refusal_number(why)
-        }
-    }
+    planned_number(plan_tape(tape, steps, list), place)
 }
 
 // Lists a tape that is planned as by `fullerecru_plan_tape`: the list gets 13 numbers for each block, in order: the eleven of
@@ -48,16 +39,7 @@ pub extern "C" fn fullerecru_list_tape(
 ) -> u64
     ensures { λ r. ⌜ ListLent (now (tape .entry)) (now (steps .entry)) r (now (list .entry)) (now (list .exit)) (now (place .exit)) ⌝ }
 {
-    match list_tape(tape, steps, list) {
-        TapePlanned::Planned => {
-            put_number(place, 0);
-            0
-        }
-        TapePlanned::Refused(why, at) => {
-            put_number(place, at as u64);
-            refusal_number(why)
-        }
-    }
+    planned_number(list_tape(tape, steps, list), place)
 }
 
 // Runs a trace through a fresh planner with the torque steps of `fullerecru_fresh`: 24 bytes of limits

@@ -3,13 +3,13 @@
 ghost use mathlib.Core.Path.{_≡_};
 ghost use Rattle.report.specs.Report.{freshReport};
 ghost use Rattle.fullerecru.specs.Reports.{HeldLent, ReportLent};
+use crate::numbers::planned_number;
 use crate::numbers::put_number;
 use display::refusal_number;
 use report::Figured;
 use report::held::held_back;
 use report::tapes::FIGURES;
 use report::tapes::store_figures;
-use tapeplan::TapePlanned;
 
 // Makes a fresh report: no tape was accepted.
 #[no_mangle]
@@ -59,14 +59,5 @@ pub extern "C" fn fullerecru_held_by(
 ) -> u64
     ensures { λ r. ⌜ HeldLent (now (tape .entry)) (now (steps .entry)) r (now (list .entry)) (now (list .exit)) (now (place .exit)) ⌝ }
 {
-    match held_back(tape, steps, list) {
-        TapePlanned::Planned => {
-            put_number(place, 0);
-            0
-        }
-        TapePlanned::Refused(why, at) => {
-            put_number(place, at as u64);
-            refusal_number(why)
-        }
-    }
+    planned_number(held_back(tape, steps, list), place)
 }

@@ -1,5 +1,4 @@
 -- `fullerecru::plans::fullerecru_plan_tape`: the promise of `plan_tape` by number and place.
-use mathlib.Core.Path.{refl}
 use borrow.Author.Needs.{needs}
 use Rattle.fullerecru.proofs.WholeTapes.{planned}
 use Rattle.fullerecru.proofs.plans.fullerecru_plan_tape.Statement.{statement}
@@ -7,26 +6,8 @@ use Rattle.fullerecru.proofs.plans.fullerecru_plan_tape.Tie as tie
 
 returns : tie.Need-returns
 returns c =
-    let t = c .before .before in
-    planned _ (rw (t .enum-told .given .1) at (t .before .before .before .before .plan-tape .ensures)) refl (c .put-number .ensures)
-
-returns-2 : tie.Need-returns-2
-returns-2 c =
-    let n = c .before in
-    let w = n .before .before .before in
-    planned _ (rw (w .why .given .1) at (w .before .before .before .before .plan-tape .ensures)) (c .refusal-number .ensures) (n .put-number2 .ensures)
+    let n = c .planned-number .ensures in
+    planned _ (c .before .before .before .before .plan-tape .ensures) (n .0) (n .1)
 
 pub fullerecru-plan-tape-spec : {M : Type 1} → statement M
-fullerecru-plan-tape-spec =
-    tie.close
-    (tie.spec
-    (λ c κs. search needs)
-    (λ c. search needs)
-    (λ c κs. search needs)
-    (λ c. search needs)
-    (λ c κs. search needs)
-    (λ c κs. search needs)
-    (λ c. search needs)
-    returns
-    (λ c. search needs)
-    returns-2)
+fullerecru-plan-tape-spec = tie.close (tie.spec (λ c κs. search needs) (λ c κs. search needs) (λ c. search needs) returns)
