@@ -34,19 +34,17 @@ across = 0 ∷ 0 ∷ 0 ∷ 0 ∷ 250 ∷ 0 ∷ 0 ∷ 0 ∷ 9 ∷ 196 ∷ 0 ∷ 0
 chord : List ℕ
 chord = 0 ∷ 3 ∷ 32 ∷ 0 ∷ 0 ∷ 0 ∷ 0 ∷ 0 ∷ 9 ∷ 196 ∷ 0 ∷ 0 ∷ 0 ∷ 32 ∷ 0 ∷ 4 ∷ []
 
--- the right-angle pair: feed, radius, mark, length, acceleration, entry, exit, peak, up, cruise, down, the block's cap, the junction's
-pair : tapeRows (machine ++ first ++ across) []
+-- the right-angle pair: feed, radius, mark, length, acceleration, entry, exit, peak, up, cruise, down, the block's cap, the junction's; and a chord of
+-- so small a radius that its cap holds the junction before it too
+worked :
+    (tapeRows (machine ++ first ++ across) []
     ≡ 20_000 ∷ 0 ∷ 7 ∷ 1000 ∷ 200_000 ∷ 0 ∷ 2_000_000 ∷ 201_000_000 ∷ 502 ∷ 0 ∷ 498 ∷ 400_000_000 ∷ 0
-    ∷ 20_000 ∷ 0 ∷ 8 ∷ 1000 ∷ 200_000 ∷ 2_000_000 ∷ 0 ∷ 201_000_000 ∷ 497 ∷ 0 ∷ 503 ∷ 400_000_000 ∷ 2_000_000 ∷ []
-unfolding machine first across rowsFrom givenOf limitsAt blockAt blocksFrom tapeBlocks limitsFrom labelledBlock numberOf joined split signedOf torquePercent rootOf rootByDigits nextRoot cappedQuotient lengthFrom axisLimit eachAxis speedOf axisAccel accelOf reachFrom chordFactor blockCapFrom numbersOf turnFrom cornerFrom cornerCap junctionCap peakOf upOf downOf rampOf spansAfter spansOf brake startLimit forward planOf
-pair = refl
-
--- a chord of so small a radius: its cap holds the junction before it too
-curved : tapeRows (machine ++ first ++ chord) []
+    ∷ 20_000 ∷ 0 ∷ 8 ∷ 1000 ∷ 200_000 ∷ 2_000_000 ∷ 0 ∷ 201_000_000 ∷ 497 ∷ 0 ∷ 503 ∷ 400_000_000 ∷ 2_000_000 ∷ [])
+    × (tapeRows (machine ++ first ++ chord) []
     ≡ 20_000 ∷ 0 ∷ 7 ∷ 1000 ∷ 200_000 ∷ 0 ∷ 1_000_000 ∷ 200_500_000 ∷ 501 ∷ 0 ∷ 499 ∷ 400_000_000 ∷ 0
-    ∷ 20_000 ∷ 1 ∷ 4 ∷ 100 ∷ 200_000 ∷ 1_000_000 ∷ 0 ∷ 1_000_000 ∷ 0 ∷ 97 ∷ 3 ∷ 1_000_000 ∷ 1_000_000 ∷ []
-unfolding machine first chord rowsFrom givenOf limitsAt blockAt blocksFrom tapeBlocks limitsFrom labelledBlock numberOf joined split signedOf torquePercent rootOf rootByDigits nextRoot cappedQuotient lengthFrom axisLimit eachAxis speedOf axisAccel accelOf reachFrom chordFactor blockCapFrom numbersOf turnFrom cornerFrom cornerCap junctionCap peakOf upOf downOf rampOf spansAfter spansOf brake startLimit forward planOf
-curved = refl
+    ∷ 20_000 ∷ 1 ∷ 4 ∷ 100 ∷ 200_000 ∷ 1_000_000 ∷ 0 ∷ 1_000_000 ∷ 0 ∷ 97 ∷ 3 ∷ 1_000_000 ∷ 1_000_000 ∷ [])
+unfolding machine first across chord rowsFrom givenOf limitsAt blockAt blocksFrom tapeBlocks limitsFrom labelledBlock numberOf joined split signedOf torquePercent rootOf rootByDigits nextRoot cappedQuotient lengthFrom axisLimit eachAxis speedOf axisAccel accelOf reachFrom chordFactor blockCapFrom numbersOf turnFrom cornerFrom cornerCap junctionCap peakOf upOf downOf rampOf spansAfter spansOf brake startLimit forward planOf
+worked = (refl, refl)
 
 -- 26 numbers are lent for two blocks, else 11
 sized : (sizedFault (machine ++ first ++ across) [] (rowsSize (machine ++ first ++ across)) 26 ≡ 0 at 0) × (sizedFault (machine ++ first ++ across) [] (rowsSize (machine ++ first ++ across)) 25 ≡ 11 at 0)

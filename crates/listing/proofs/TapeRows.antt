@@ -1,7 +1,7 @@
 -- The rows of a tape's list, one behind the other: as they are stored, and that those made from the sheet and the plan of an accepted tape are the
 -- tape's. From the laws of lists, of an accepted tape and of its survey.
 use mathlib.Core.Path.{_≡_, refl, sym, ap, _∙_}
-use mathlib.Core.List.{List, _∷_, _++_, append-assoc, append-nil, []}
+use mathlib.Core.List.{List, _++_, append-assoc, append-nil}
 use Prim.Native.Nat.{ℕ, zero, suc, _+_, _-_, _*_, _≤_, _<_, min}
 use native.Mathlib.Nat.{add-zero, zero-add}
 use native.Mathlib.Numerals.{add-one}
@@ -11,7 +11,6 @@ use borrow.Rule.Slice.PartMut.{putMid}
 use Rattle.profile.specs.Line.{capAt, numberAt}
 use Rattle.machine.specs.Numbers.{blockCap, numbersOf}
 use Rattle.machine.specs.declared.Machine.{Machine}
-use Rattle.machine.specs.declared.Numbers.{Numbers}
 use Rattle.machine.proofs.Runs.{stored-behind}
 use Rattle.machine.proofs.Rampables.{rampable-holds}
 use Rattle.line.specs.Answers.{givenBetween, givenOf}

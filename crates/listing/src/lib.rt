@@ -1,5 +1,6 @@
 // The listing of a whole tape as document 01 words it, for every bytes: a header and one line for each block, or the one
-// line of the refusal. A tape is planned once, and its text comes in parts, each stored in bytes that the caller lends.
+// line of the refusal. A tape is planned once, and its text comes in parts, each stored in bytes that the caller lends. `rows`
+// has its blocks as numbers in place of text.
 pub mod given;
 pub mod rows;
 

@@ -3,7 +3,6 @@ use mathlib.Core.Path.{_≡_, sym, ap, _∙_}
 use mathlib.Core.List.{List}
 use Prim.Native.Nat.{ℕ, _*_}
 use native.Mathlib.Omega.{arith}
-use Rattle.tape.specs.Tape.{recordsIn}
 use Rattle.tapeplan.specs.Planned.{plannedMeans}
 use Rattle.tapeplan.proofs.Sized.{filled-refused, filled-unfit, filled-whole}
 use Rattle.tapeplan.proofs.Wholes.{planned-few, planned-passed}

@@ -1,6 +1,6 @@
 -- `listing::rows::put_row`: the row of what is read.
-use mathlib.Core.Path.{_≡_, refl, sym, ap, _∙_}
-use Prim.Native.Nat.{ℕ, _+_, _-_, min}
+use mathlib.Core.Path.{ap, _∙_}
+use Prim.Native.Nat.{_+_, _-_, min}
 use native.Mathlib.Omega.{arith}
 use Rattle.profile.specs.Line.{numberAt}
 use Rattle.line.specs.Answers.{givenBetween}

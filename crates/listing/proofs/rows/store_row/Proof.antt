@@ -1,11 +1,11 @@
 -- `listing::rows::store_row`: the numbers of the block from the beginning, the caps in the rest. From the laws of runs.
-use mathlib.Core.List.{List, _∷_, []}
-use mathlib.Core.Path.{_≡_, refl, sym, ap, _∙_}
-use Prim.Native.Nat.{ℕ, _-_}
+use mathlib.Core.List.{_∷_, []}
+use mathlib.Core.Path.{refl, _∙_}
+use Prim.Native.Nat.{_-_}
 use native.Mathlib.Omega.{arith}
-use lib.ListN.{length, length-drop, length-take}
+use lib.ListN.{length}
 use lib.Seq.{sets, length-sets}
-use borrow.Rule.Slice.PartMut.{putMid, same-len-mid}
+use borrow.Rule.Slice.PartMut.{putMid}
 use Rattle.line.specs.Answers.{givenNumbers}
 use Rattle.machine.proofs.Runs.{stored-rest}
 use borrow.Author.Needs.{needs}
