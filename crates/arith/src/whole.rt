@@ -17,6 +17,16 @@ pub fn fewer(a: usize, b: usize) -> usize
     if a <= b { a } else { b }
 }
 
+// One fewer than a count; 0 where there is none.
+pub fn one_fewer(n: usize) -> usize
+    ensures { λ r. ⌜ r ≡ n - 1 ⌝ }
+{
+    if n == 0 {
+        return 0;
+    }
+    n - 1
+}
+
 // The larger of two numbers.
 pub fn larger(a: u64, b: u64) -> u64
     ensures { λ r. ⌜ r ≡ max a b ⌝ }

@@ -1,12 +1,13 @@
 // A tape's list: a row of numbers for each block, in a list that the caller lends.
 ghost use mathlib.Core.List.{_∷_, []};
 ghost use mathlib.Core.Path.{_≡_};
-ghost use Prim.Native.Nat.{_+_, _-_, _<_, _≤_};
+ghost use Prim.Native.Nat.{_+_, _<_, _≤_};
 ghost use lib.ListN.{length};
 ghost use Rattle.machine.specs.Checks.{blockRefusal};
 ghost use Rattle.tape.specs.Tape.{recordAt, recordsIn};
 ghost use Rattle.tapeplan.specs.Sheet.{rowsIn};
 ghost use Rattle.listing.specs.Rows.{ListedTape, RecordsPass, rowFrom, rowSize, rowsFrom, rowsSize, sheetRow};
+use arith::whole::one_fewer;
 use display::Refusal;
 use line::Given;
 use line::lists::store_given_numbers;
@@ -39,16 +40,6 @@ fn block_of(s: &[u8], k: usize) -> Block
     }
 }
 
-// The block before block k; block 0 for the first.
-fn before(k: usize) -> usize
-    ensures { λ r. ⌜ r ≡ k - 1 ⌝ }
-{
-    if k == 0 {
-        return 0;
-    }
-    k - 1
-}
-
 // Stores the two caps behind the numbers of a block given out.
 fn store_caps(cap: u64, junction: u64, list: &mut [u64])
     requires { ⌜ length (now list) ≡ 2 ⌝ }
@@ -67,12 +58,13 @@ fn store_row(g: Given, cap: u64, junction: u64, row: &mut [u64])
     store_caps(cap, junction, &mut row[GIVEN..]);
 }
 
-// Stores the row of block k, from its record, its row of the sheet and the plan's numbers at its two ends.
+// Stores the row of block k, from its record, its row of the sheet and the one before it, of which the first block needs none, since
+// its corner is 0, and the plan's numbers at its two ends.
 fn put_row(s: &[u8], sheet: &[u64], plan: &[u64], k: usize, row: &mut [u64])
     requires { ⌜ ((k < recordsIn (now s)) × (blockRefusal (recordAt (now s) k) ≡ 0)) × (k < rowsIn (now sheet)) × (k + 1 < length (now plan)) × (length (now row) ≡ rowSize) ⌝ }
     ensures { λ r. ⌜ now (row .exit) ≡ sheetRow (now (s .entry)) (now (sheet .entry)) (now (plan .entry)) k ⌝ }
 {
-    let last = measured_at(sheet, before(k));
+    let last = measured_at(sheet, one_fewer(k));
     let here = measured_at(sheet, k);
     let n = here.numbers;
     let entry = plan[k];

@@ -1,11 +1,12 @@
 // What held each inner junction of a tape back: 0 the feed or an axis, 1 the corner, 2 the chord rule, 3 the reach of blocks.
 ghost use mathlib.Core.Path.{_≡_};
-ghost use Prim.Native.Nat.{_+_, _-_, _<_};
+ghost use Prim.Native.Nat.{_+_, _<_};
 ghost use lib.ListN.{length};
 ghost use Rattle.tapeplan.specs.Sheet.{rowsIn};
 ghost use Rattle.report.specs.Counts.{listFrom};
 ghost use Rattle.report.specs.Rows.{heldFrom, rowHeld};
 ghost use Rattle.report.specs.Held.{HeldTape};
+use arith::whole::one_fewer;
 use arith::whole::smaller;
 use display::Refusal;
 use tape::records::records_in;
@@ -59,16 +60,6 @@ fn store_held(sheet: &[u64], plan: &[u64], list: &mut [u64])
     }
 }
 
-// How many inner junctions a tape of so many blocks has.
-fn inner_of(blocks: usize) -> usize
-    ensures { λ r. ⌜ r ≡ blocks - 1 ⌝ }
-{
-    if blocks == 0 {
-        return 0;
-    }
-    blocks - 1
-}
-
 // Fills the lent list with what held each inner junction of a tape, in order, planned with the torque steps that are loaded,
 // eight bytes, or none for the built-in steps. Checks 10, 9, 1, 14, each record in turn, then 11 where the list has not exactly
 // as many numbers as the tape has inner junctions, one fewer than blocks and 0 without a block; on a refusal the list holds
@@ -81,7 +72,7 @@ pub fn held_back(s: &[u8], steps: &[u8], list: &mut [u64]) -> TapePlanned
     match plan_whole(s, steps, &mut sheet, &mut plan) {
         TapePlanned::Refused(why, place) => TapePlanned::Refused(why, place),
         TapePlanned::Planned => {
-            if list.len() != inner_of(records_in(s)) {
+            if list.len() != one_fewer(records_in(s)) {
                 return TapePlanned::Refused(Refusal::List, 0);
             }
             store_held(&sheet, &plan, list);

@@ -11,7 +11,7 @@ use Rattle.listing.proofs.rows.put_row.Statement.{statement}
 use Rattle.listing.proofs.rows.put_row.Tie as tie
 
 measured-at-requires : tie.Need-measured-at-requires
-measured-at-requires c κs = omega (arith, c .before2 .ensures)
+measured-at-requires c κs = omega (arith, c .one-fewer .ensures)
 
 store-row-requires : tie.Need-store-row-requires
 store-row-requires c κs = c .before .before .before .before .before .before .before .before .before .before .before .before .before .before .pre .3
@@ -32,7 +32,7 @@ returns c =
     ∙ (λ i. rowFrom
     (givenBetween (b .block-of .ensures i) (here .measured-at2 .ensures i .numbers) (numberAt (a .plan .now) k) (numberAt (a .plan .now) (k + 1)))
     (row k .numbers .cap)
-    (min (min ((last .measured-at .ensures ∙ ap row (last .before .before2 .ensures)) i .numbers .cap) (here .measured-at2 .ensures i .numbers .cap)) (here .measured-at2 .ensures i .corner)))
+    (min (min ((last .measured-at .ensures ∙ ap row (last .before .one-fewer .ensures)) i .numbers .cap) (here .measured-at2 .ensures i .numbers .cap)) (here .measured-at2 .ensures i .corner)))
 
 pub put-row-spec : {M : Type 1} → statement M
 put-row-spec =

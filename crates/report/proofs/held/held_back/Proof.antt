@@ -16,7 +16,7 @@ use Rattle.report.proofs.held.held_back.Statement.{statement}
 use Rattle.report.proofs.held.held_back.Tie as tie
 
 -- a tape that is planned, and how many inner junctions it has
-module _ (c : tie.After-inner-of) where
+module _ (c : tie.After-one-fewer) where
   abbrev told : tie.After-enum-told
   told = c .before .before
 
@@ -29,8 +29,8 @@ module _ (c : tie.After-inner-of) where
   abbrev tape : List ℕ
   tape = start .args .s .now
 
-  inner : c .inner-of .result ≡ recordsIn tape - 1
-  inner = c .inner-of .ensures ∙ ap (λ (n : ℕ). n - 1) (c .before .records-in .ensures)
+  inner : c .one-fewer .result ≡ recordsIn tape - 1
+  inner = c .one-fewer .ensures ∙ ap (λ (n : ℕ). n - 1) (c .before .records-in .ensures)
 
 returns : tie.Need-returns
 returns c =
