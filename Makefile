@@ -74,7 +74,7 @@ test:
 	@tools/needs 'make test' bash
 	@tests/run
 
-#: bench      time and instructions of the proved code beside the independent implementation (5 min behind make lib)
+#: bench      time and instructions of the proved code beside the independent implementation (2 min behind make lib)
 bench:
 	@tools/needs 'make bench' bash rt cargo rustc cc ld
 	@$(MAKE) --no-print-directory lib
