@@ -128,18 +128,16 @@ fn complement(z: i64) -> u64
     (-1 - z) as u64
 }
 
-// The integer that the `width` low bits of `bits` stand for, by two's complement.
+// The integer that the `width` low bits of `bits` stand for, by two's complement. Moved up by half the size and down again: of
+// that the compiler makes two shifts, and no branch.
 pub fn to_signed(bits: u64, width: usize) -> i64
     requires { ⌜ width < 64 ⌝ }
     ensures { λ r. ⌜ r ≡ signedOf width bits ⌝ }
 {
     let size = pow2(width);
-    let low = bits % size;
-    if low + low < size {
-        low as i64
-    } else {
-        negative(size - 1 - low)
-    }
+    let half = size / 2;
+    let moved = (bits % size + half) % size;
+    moved as i64 - half as i64
 }
 
 // The integer that a whole word stands for, by two's complement.
@@ -163,5 +161,16 @@ pub fn to_bits(z: i64, width: usize) -> u64
         size - 1 - complement(z) % size
     } else {
         z as u64 % size
+    }
+}
+
+// The bits of an integer in a whole word, by two's complement: what `signed_word` reads. The compiler makes no instruction of it.
+pub fn to_word(z: i64) -> u64
+    ensures { λ r. ⌜ r ≡ bitsOf 64 z ⌝ }
+{
+    if z < 0 {
+        18_446_744_073_709_551_615 - complement(z)
+    } else {
+        z as u64
     }
 }

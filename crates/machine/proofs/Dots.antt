@@ -63,3 +63,8 @@ pub corner-quotient : (cap jump product turn : ℕ) → cappedQuotient cap (jump
 unfolding cornerFrom cappedQuotient
 corner-quotient cap jump product zero = refl
 corner-quotient cap jump product (suc turn) = quotient-positive cap (jump * jump * product) (2 * suc turn) (omega arith)
+
+-- without a turn it is the cap itself
+pub corner-straight : (cap jump product turn : ℕ) → turn ≡ 0 → underCap (cornerFrom jump product turn) cap ≡ cap
+unfolding cornerFrom
+corner-straight cap jump product turn e = rw e

@@ -1,7 +1,9 @@
 -- When a ramp can be worked out.
-use mathlib.Core.Path.{_≡_}
-use mathlib.Core.Bool.{true, false, _&&_}
-use Prim.Native.Nat.{ℕ, _+_, _^_, _≤_, _<_}
+use mathlib.Core.Path.{_≡_, refl, _∙_}
+use mathlib.Core.Bool.{Bool, true, false, _&&_}
+use Prim.Native.Nat.{ℕ, _+_, _%_, _^_, _≤_, _<_}
+use native.Mathlib.Nat.{mod-eq-of-lt}
+use native.Mathlib.Omega.{arith}
 use borrow.Author.Tests.{leb-true, ltb-true, le-leb, lt-ltb}
 use lib.Dec.{leb}
 use Rattle.machine.specs.Numbers.{Rampable, sized, rampable}
@@ -9,7 +11,7 @@ use Rattle.machine.specs.declared.Numbers.{Numbers}
 use Rattle.arith.proofs.Tests.{both}
 
 -- what the first part of the test says
-pub record Sized (n : Numbers) (entry exit : ℕ) : Type 0 where
+record Sized (n : Numbers) (entry exit : ℕ) : Type 0 where
   pub accel-above : 0 < n .accel
   pub accel-below : n .accel < 2 ^ 32
   pub cap-below : n .cap < 2 ^ 50
@@ -17,7 +19,7 @@ pub record Sized (n : Numbers) (entry exit : ℕ) : Type 0 where
   pub entry-capped : entry ≤ n .cap
   pub exit-capped : exit ≤ n .cap
 
-pub sized-says : (n : Numbers) (entry exit : ℕ) → sized n entry exit ≡ true → Sized n entry exit
+sized-says : (n : Numbers) (entry exit : ℕ) → sized n entry exit ≡ true → Sized n entry exit
 sized-says n entry exit e =
     let parts = both _ _ e in
     let first = both _ _ (parts .0) in
@@ -33,13 +35,13 @@ sized-says n entry exit e =
       exit-capped = leb-true exit (n .cap) (caps .1);
     }
 
--- and the second
-pub steps-say : (n : Numbers) (entry exit : ℕ) → leb entry (exit + n .reach) && leb exit (entry + n .reach) ≡ true → (entry ≤ exit + n .reach) × (exit ≤ entry + n .reach)
-steps-say n entry exit e = let parts = both _ _ e in (leb-true entry (exit + n .reach) (parts .0), leb-true exit (entry + n .reach) (parts .1))
-
--- together
-pub rampable-is : (n : Numbers) (entry exit : ℕ) → Sized n entry exit → (entry ≤ exit + n .reach) × (exit ≤ entry + n .reach) → Rampable n entry exit
-rampable-is n entry exit s d =
+-- what all of it says
+pub rampable-says : (n : Numbers) (entry exit : ℕ) → rampable n entry exit ≡ true → Rampable n entry exit
+unfolding rampable
+rampable-says n entry exit e =
+    let parts = both _ _ e in
+    let s = sized-says n entry exit (parts .0) in
+    let steps = both _ _ (parts .1) in
     record {
       accel-above = s .accel-above;
       accel-below = s .accel-below;
@@ -47,22 +49,23 @@ rampable-is n entry exit s d =
       reach-below = s .reach-below;
       entry-capped = s .entry-capped;
       exit-capped = s .exit-capped;
-      falls = d .0;
-      rises = d .1;
+      falls = leb-true entry (exit + n .reach) (steps .0);
+      rises = leb-true exit (entry + n .reach) (steps .1);
     }
 
--- a test of two parts, by them
-pub rampable-true : (n : Numbers) (entry exit : ℕ) → sized n entry exit ≡ true → leb entry (exit + n .reach) && leb exit (entry + n .reach) ≡ true → rampable n entry exit ≡ true
+-- Sums that wrap will do for it: those of sized numbers do not.
+pub rampable-wrapped : (n : Numbers) (entry exit : ℕ) {low high : ℕ} → low ≡ (exit + n .reach) % 2 ^ 64 → high ≡ (entry + n .reach) % 2 ^ 64
+    → sized n entry exit && (leb entry low && leb exit high) ≡ rampable n entry exit
 unfolding rampable
-rampable-true n entry exit a b = rw (a, b)
-
-pub rampable-unsized : (n : Numbers) (entry exit : ℕ) → sized n entry exit ≡ false → rampable n entry exit ≡ false
-unfolding rampable
-rampable-unsized n entry exit a = rw a
-
-pub rampable-apart : (n : Numbers) (entry exit : ℕ) → sized n entry exit ≡ true → leb entry (exit + n .reach) && leb exit (entry + n .reach) ≡ false → rampable n entry exit ≡ false
-unfolding rampable
-rampable-apart n entry exit a b = rw (a, b)
+rampable-wrapped n entry exit {low} {high} l h = by (sized n entry exit) refl
+  where
+    by : (t : Bool) → sized n entry exit ≡ t → t && (leb entry low && leb exit high) ≡ t && (leb entry (exit + n .reach) && leb exit (entry + n .reach))
+    by false e = refl
+    by true e =
+        let s = sized-says n entry exit e in
+        let a : low ≡ exit + n .reach = l ∙ mod-eq-of-lt (omega arith) in
+        let b : high ≡ entry + n .reach = h ∙ mod-eq-of-lt (omega arith) in
+        rw (a, b)
 
 -- and the test of speeds that can be ramped holds
 pub rampable-holds : (n : Numbers) (entry exit : ℕ) → Rampable n entry exit → rampable n entry exit ≡ true

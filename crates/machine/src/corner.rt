@@ -39,13 +39,18 @@ fn turn(product: u64, a: Block, b: Block) -> u64
     gap(product, times(UNIT_SQUARE, dot(a, b)))
 }
 
-// A cap, (µm/s)², under the corner cap between two blocks, whose lengths are given.
+// A cap, (µm/s)², under the corner cap between two blocks, whose lengths are given. Most junctions have no turn, 0 µm², and so
+// no corner cap: they need no division.
 pub fn under_corner(cap: u64, jump: u64, a: Block, length_a: u64, b: Block, length_b: u64) -> u64
     requires { ⌜ (jump < 2 ^ 32) × («length_a» < 2 ^ 30) × («length_b» < 2 ^ 30) × AxesBelow (2 ^ 21) (movesOf a) × AxesBelow (2 ^ 21) (movesOf b) ⌝ }
     ensures { λ r. ⌜ r ≡ underCap (cornerFrom jump («length_a» * «length_b») (turnFrom («length_a» * «length_b») a b)) cap ⌝ }
 {
     let product = length_a * length_b;
-    capped_quotient(cap, jump * jump, product, 2 * turn(product, a, b))
+    let turned = turn(product, a, b);
+    if turned == 0 {
+        return cap;
+    }
+    capped_quotient(cap, jump * jump, product, 2 * turned)
 }
 
 // The junction cap between two blocks, (µm/s)², from the corner jump and both blocks' numbers.

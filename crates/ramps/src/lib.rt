@@ -48,14 +48,22 @@ fn is_sized(n: Numbers, entry: u64, exit: u64) -> bool
     (accel & room) & capped
 }
 
+// Whether a plan can have these squared speeds, (µm/s)², at the block's ends: sized, and each within the reach of the other. It
+// is one test, with no branch on the size, since only sums of numbers that are not sized wrap.
+fn is_rampable(n: Numbers, entry: u64, exit: u64) -> bool
+    ensures { λ r. ⌜ r ≡ rampable n entry exit ⌝ }
+{
+    let falls = entry <= std::num::wrapping_add_u64(exit, n.reach);
+    let rises = exit <= std::num::wrapping_add_u64(entry, n.reach);
+    is_sized(n, entry, exit) & (falls & rises)
+}
+
 // The ramp between two squared speeds, (µm/s)²; zeros for speeds that no plan has at a block's ends.
 fn ramp_between(n: Numbers, entry: u64, exit: u64) -> Ramp
     ensures { λ r. ⌜ r ≡ cond (rampable n entry exit) (rampOf n entry exit) noRamp ⌝ }
 {
-    if is_sized(n, entry, exit) {
-        if (entry <= exit + n.reach) & (exit <= entry + n.reach) {
-            return ramp(n, entry, exit);
-        }
+    if is_rampable(n, entry, exit) {
+        return ramp(n, entry, exit);
     }
     Ramp {
         peak: 0,

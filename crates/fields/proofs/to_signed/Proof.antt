@@ -1,37 +1,64 @@
--- `fields::to_signed`: the two halves, from `signed-low` and `signed-high`.
-use mathlib.Core.Path.{sym, _∙_}
-use Prim.Native.Nat.{_^_, _≤_, _%_, _<_}
+-- `fields::to_signed`: the bits moved up by half the size and down again, from `signed-moved`.
+use mathlib.Core.Path.{_≡_, ap, _∙_}
+use Prim.Native.Nat.{ℕ, _+_, _/_, _^_, _≤_, _%_, _<_}
 use native.Mathlib.Nat.{mod-lt}
 use native.Mathlib.Omega.{arith}
 use mir.Syntax.{w64}
+use mir.Val.{SFits, toZ, ofZ}
 use mir.Facts.{toZ-pos, toZ-ofZ}
+use lib.IntN.{ℤ, _-ℤ_}
 use lib.Pow.{pow-mono}
-use Rattle.fields.proofs.Signed.{signed-low, signed-high}
+use Rattle.fields.specs.Signed.{signedOf}
+use Rattle.fields.proofs.Signed.{signed-moved, signed-size}
 use borrow.Author.Needs.{needs}
 use Rattle.fields.proofs.to_signed.Statement.{statement}
 use Rattle.fields.proofs.to_signed.Tie as tie
 
 module _ (c : tie.After-pow2) where
-  bounds : (c .before .args .bits % c .pow2 .result < c .pow2 .result) × (c .pow2 .result ≤ 2 ^ 63)
-  bounds = (mod-lt (c .before .args .bits) (c .pow2 .ensures .positive), rw (c .pow2 .ensures .is) (pow-mono {i = c .before .args .width} {j = 63} (omega arith)))
+  abbrev bits : ℕ
+  bits = c .before .args .bits
 
-add-if1 : tie.Need-add-if1
-add-if1 c = record { fits = omega (arith, bounds c) }
+  abbrev width : ℕ
+  width = c .before .args .width
+
+  abbrev size : ℕ
+  size = c .pow2 .result
+
+  abbrev moved : ℕ
+  moved = (bits % size + size / 2) % size
+
+  low : bits % size < size
+  low = mod-lt bits (c .pow2 .ensures .positive)
+
+  small : moved < size
+  small = mod-lt (bits % size + size / 2) (c .pow2 .ensures .positive)
+
+  power : 2 ^ width ≤ 2 ^ 63
+  power = pow-mono {i = width} {j = 63} (omega arith)
+
+  bounded : size ≤ 2 ^ 63
+  bounded = rw (c .pow2 .ensures .is) power
+
+  value : toZ w64 moved -ℤ toZ w64 (size / 2) ≡ signedOf width bits
+  value =
+      let m : moved < 2 ^ 63 = omega (arith, small, bounded) in
+      let h : size / 2 < 2 ^ 63 = omega (arith, bounded) in
+      rw (toZ-pos w64 m, toZ-pos w64 h) (signed-moved width (c .pow2 .ensures .is) bits (c .pow2 .ensures .positive))
+
+  fitting : SFits w64 (signedOf width bits)
+  fitting = record { sfits = omega (arith, signed-size width bits, power) }
+
+add-moved : tie.Need-add-moved
+add-moved c = record { fits = omega (arith, low c, bounded c) }
 
 cast-result : tie.Need-cast-result
-cast-result c = record { sfits = omega (arith, bounds (c .before)) }
+cast-result c = record { sfits = omega (arith, small c, bounded c) }
 
-sub-negative-2 : tie.Need-sub-negative-2
-sub-negative-2 c = omega (arith, bounds (c .before))
-
-negative-requires : tie.Need-negative-requires
-negative-requires c κs = omega (arith, bounds (c .before))
+sub-result : tie.Need-sub-result
+sub-result c = rw (value c) (fitting c)
 
 returns : tie.Need-returns
-returns c = toZ-pos w64 (omega (arith, bounds (c .before))) ∙ sym (signed-low _ (c .before .pow2 .ensures .is) _ (c .if1 .taken))
-
-returns-2 : tie.Need-returns-2
-returns-2 c = toZ-ofZ {w = w64} (record { sfits = c .negative .ok }) ∙ c .negative .ensures ∙ sym (signed-high _ (c .before .before .pow2 .ensures .is) _ (c .before .if1 .left))
+returns c = ap (λ (z : ℤ). toZ w64 (ofZ w64 z)) (value c) ∙ toZ-ofZ (fitting c)
 
 pub to-signed-spec : {M : Type 1} → statement M
 to-signed-spec =
@@ -39,10 +66,9 @@ to-signed-spec =
     (tie.spec
     (λ c κs. search needs)
     (λ c. search needs)
-    add-if1
+    add-moved
+    (λ c. search needs)
     cast-result
     (λ c. search needs)
-    sub-negative-2
-    negative-requires
-    returns
-    returns-2)
+    sub-result
+    returns)
