@@ -1,43 +1,36 @@
--- An add: a ring that holds a line answers as the line does and holds the line afterwards. From the laws of spans, places and
--- the walk back.
+-- An add: a ring that holds a line answers as the line does and holds the line afterwards. From the laws of spans, places
+-- and stairs.
 use mathlib.Core.Bool.{cond}
 use mathlib.Core.Path.{_≡_, refl, ap, sym, subst, _∙_}
 use mathlib.Core.List.{List, _∷_, _++_, []}
-use Prim.Native.Nat.{ℕ, zero, suc, _+_, _-_, _≤_, _<_}
-use native.Mathlib.Numerals.{add-one}
+use Prim.Native.Nat.{ℕ, zero, suc, _+_, _-_, _*_, _^_, _≤_, _<_}
 use native.Mathlib.Decide.{decLt}
 use native.Mathlib.Omega.{arith}
 use borrow.Author.Tests.{leb-false, ne-eqb}
 use lib.Dec.{eqb, lit<}
-use lib.ListN.{length, set, length-set, length-append, List·getD-append}
+use lib.ListN.{length, length-set, length-append, List·getD-append}
 use lib.Seq.{getD-at}
 use Rattle.display.proofs.Answers.{then-zero, not-picked}
-use Rattle.profile.specs.Line.{Span, noSpan, spanAt, capAt, reachAt}
+use Rattle.profile.specs.Line.{Span, noSpan, spanAt, capAt, totalReach}
 use Rattle.profile.specs.Passes.{startLimit, CanBrake}
 use Rattle.profile.proofs.Brake.{add-keeps}
-use Rattle.profile.proofs.Kept.{Extended, extended-first}
+use Rattle.profile.specs.Stairs.{Stair}
 use Rattle.machine.specs.Checks.{blockRefusal}
 use Rattle.machine.specs.Labels.{noBlock}
 use Rattle.machine.specs.Line.{spansOf}
-use Rattle.machine.specs.Numbers.{numbersOf, blockCap}
+use Rattle.machine.specs.Numbers.{numbersOf, reachOf, blockCap}
 use Rattle.machine.specs.declared.Block.{Block}
 use Rattle.machine.specs.declared.Machine.{Machine}
 use Rattle.line.specs.Answers.{answerBy}
 use Rattle.line.specs.Blocks.{mostHeld, Line, add, addRefusal, addAfter, lineAnswer, lineAfter}
-use Rattle.line.specs.Ring.{Place, Ring, cutMachine, slot, placeAt, blockIn, numbersIn, placeOf, junctionAfter, newJunction, walkBack, putLast, addedIn, ringAnswer, ringAfter}
-use Rattle.line.specs.Holds.{blockAt, keptAt, Placed, Holds}
-use Rattle.machine.proofs.Spans.{spans-length, spans-first, spans-cap}
-use Rattle.line.proofs.Spans.{spans-last}
-use Rattle.line.proofs.Places.{machine-kept, block-back, junction-back, placed-reach, place-same, place-other}
-use Rattle.line.proofs.Walk.{Walked, walk-walked, Fitting, walk-braked}
-
--- places that differ in brakes alone hold the same blocks
-placed-walked : {old new : Ring} {m : Machine} {blocks : List Block} → Walked old new → length blocks ≤ mostHeld → Placed old m blocks → Placed new m blocks
-placed-walked w room p = record {
-  block = λ k h. ap blockIn (w .same k (omega arith)) ∙ p .block k h;
-  numbers = λ k h. ap numbersIn (w .same k (omega arith)) ∙ p .numbers k h;
-  junction = λ k q h. ap (λ (p : Place). p .junction) (w .same k (omega arith)) ∙ p .junction k q h;
-}
+use Rattle.line.specs.Ring.{Place, Ring, noPlace, cutMachine, slot, placeAt, blockIn, numbersIn, placeOf, junctionAfter, newJunction, withStairs, climbed, placedLast, putLast, addedIn, ringAnswer, ringAfter}
+use Rattle.line.specs.Holds.{blockAt, Placed, Climbed, Holds}
+use Rattle.machine.proofs.CapLaws.{block-cap-below, junction-largest}
+use Rattle.machine.proofs.Reaches.{reach-below}
+use Rattle.machine.proofs.Spans.{spans-length, spans-first, spans-cap, spans-reach}
+use Rattle.line.proofs.Spans.{spans-last, total-below}
+use Rattle.line.proofs.Places.{machine-kept, block-back, junction-back, ring-same, ring-other}
+use Rattle.line.proofs.Climbs.{climbed-sized, first-climbed, last-climbed}
 
 -- the blocks of a line with one block more
 module _ (blocks : List Block) (b : Block) where
@@ -85,6 +78,11 @@ module _ (blocks : List Block) (b : Block) where
         go [] c e = omega arith
         go (a ∷ bs) c e = e (omega arith)
 
+-- one span alone
+alone : (line : List Span) (s : Span) → length line ≡ 0 → line ++ (s ∷ []) ≡ s ∷ []
+alone [] s e = refl
+alone (x ∷ line) s e = absurd (omega arith)
+
 -- a block that passes 2 to 6, put last in a ring with room
 module _ {r : Ring} {line : Line} (b : Block) (h : Holds r line) (passed : blockRefusal b ≡ 0) (room : length (line .blocks) < mostHeld) where
   abbrev longer : List Block
@@ -124,17 +122,14 @@ module _ {r : Ring} {line : Line} (b : Block) (h : Holds r line) (passed : block
 
   -- the ring with the block in its place
   abbrev put : Ring
-  put = record { machine = r .machine; first = r .first; count = r .count + 1; committed = r .committed; places = set (r .places) (slot r (r .count)) stored }
+  put = placedLast r wanted
 
-  -- it has 64 places, the old blocks' as they were and the new one's
-  put-sized : length (put .places) ≡ mostHeld
-  put-sized = length-set (r .places) (slot r (r .count)) stored ∙ h .sized
-
+  -- it has the old blocks' places as they were and the new one's
   put-old : (k : ℕ) → k < length (line .blocks) → placeAt put k ≡ placeAt r k
-  put-old k g = place-other r (h .sized) (r .count) k stored (omega (arith, h .counted)) (omega arith) (omega (arith, h .counted))
+  put-old k g = ring-other noPlace (r .places) (h .sized .0) (r .first) (r .count) k wanted (omega (arith, h .counted)) (omega arith) (omega (arith, h .counted))
 
   put-last : placeAt put (length (line .blocks)) ≡ wanted
-  put-last = rw (← h .counted) (place-same r (h .sized) (r .count) stored) ∙ stored-is
+  put-last = ap (placeAt put) (sym (h .counted)) ∙ ring-same noPlace (r .places) (h .sized .0) (r .first) (r .count) wanted
 
   -- which are the blocks of the longer line
   put-placed : Placed put (line .machine) longer
@@ -164,51 +159,76 @@ module _ {r : Ring} {line : Line} (b : Block) (h : Holds r line) (passed : block
   old-length : length old ≡ length (line .blocks)
   old-length = spans-length (line .machine) (line .blocks)
 
-  old-room : length old < mostHeld
-  old-room = omega (arith, old-length)
-
   split : spans ≡ old ++ (span ∷ [])
   split = spans-last (line .machine) (line .blocks) b
 
-  -- so the walk back may begin: the caps and reaches fit,
-  put-fits : Fitting old span old-room put
-  put-fits = record {
-    sized = put-sized;
-    caps = λ k q g.
-        put-placed .junction k q (omega (arith, old-length, more-length (line .blocks) b)) ∙ ap (λ (s : List Span). capAt s k) split;
-    reaches = λ k q g.
-        placed-reach put-placed k (omega (arith, old-length, more-length (line .blocks) b)) ∙ ap (λ (s : List Span). reachAt s k) split;
-  }
+  span-reach : span .reach ≡ reachOf (line .machine) b
+  span-reach = spans-reach noBlock (line .machine) longer (length (line .blocks)) (omega (arith, more-length (line .blocks) b)) ∙ ap (reachOf (line .machine)) (more-last (line .blocks) b)
 
-  -- and the brakes are still those of the old line
-  put-extends : Extended old span (keptAt put) (r .count)
-  put-extends =
-      extended-first old span (keptAt r) (keptAt put) (r .count) (h .counted ∙ sym old-length)
-      (rw (add-one (r .count)) (ap (λ (p : Place). p .brake) (place-same r (h .sized) (r .count) stored)))
-      same (h .kept)
-    where
-      same : (i : ℕ) → 0 < i → i ≤ r .count → keptAt put i ≡ keptAt r i
-      same zero p q = refl
-      same (suc k) p q = ap (λ (p : Place). p .brake) (put-old k (omega (arith, h .counted)))
+  reach-is : numbersOf (cutMachine (r .machine)) b .reach ≡ span .reach
+  unfolding numbersOf
+  reach-is = ap (λ (m : Machine). numbersOf m b .reach) cut ∙ sym span-reach
 
-  -- after the walk back the ring holds the line with the block last
+  -- all reaches and the new cap together are less than a word
+  cap-below : (n : ℕ) → n ≡ length (line .blocks) → capAt spans n < 2 ^ 50
+  cap-below zero e = omega (arith, spans-first (line .machine) longer)
+  cap-below (suc c) e =
+      let last : blockAt longer (suc c) ≡ b = rw e (more-last (line .blocks) b) in
+      let most = junction-largest (line .machine .limits) (blockAt longer c) (blockAt longer (suc c)) .has in
+      omega (
+        arith,
+        spans-cap noBlock (line .machine) longer c (omega (arith, more-length (line .blocks) b)),
+        most,
+        ap (blockCap (line .machine .limits)) last,
+        block-cap-below (line .machine .limits) b passed,
+      )
+
+  old-below : totalReach old ≤ length old * 2 ^ 53
+  old-below =
+      total-below (2 ^ 53) old λ k g.
+      let held : k < length (line .blocks) = omega (arith, old-length) in
+      omega (arith, spans-reach noBlock (line .machine) (line .blocks) k held, reach-below (line .machine) (blockAt (line .blocks) k) (h .passed k held))
+
+  fits : totalReach old + span .reach + span .cap < 2 ^ 64
+  fits = omega (arith, old-below, old-length, span-reach, reach-below (line .machine) b passed, cap-below (length (line .blocks)) refl)
+
+  -- the ring with the block in its place and with the longer line's stairs holds it
+  module _ (before total : ℕ) (stairs : List Stair) where
+    with-stairs : length stairs ≡ mostHeld → Climbed (withStairs put before total stairs) spans
+        → Holds (withStairs put before total stairs) (record { machine = line .machine; committed = line .committed; blocks = longer })
+    with-stairs sized climbed = record {
+      limited = h .limited;
+      machine = h .machine;
+      committed = h .committed;
+      sized = (length-set (r .places) (slot r (r .count)) wanted ∙ h .sized .0, sized);
+      room = omega (arith, more-length (line .blocks) b);
+      counted = omega (arith, h .counted, more-length (line .blocks) b);
+      passed = more-each (line .blocks) b (λ k c. blockRefusal c ≡ 0) (h .passed) passed;
+      placed = record { block = put-placed .block; numbers = put-placed .numbers; junction = put-placed .junction };
+      climbed = λ q. climbed;
+      brakes = rw split (add-keeps (line .committed) old (span ∷ []) (h .brakes));
+      entered = λ q. more-entered (line .blocks) b (line .machine) (line .committed) (h .brakes) (h .entered);
+    }
+
+  -- after a block put last the ring holds the line with the block last
   put-holds : Holds (putLast r b) (record { machine = line .machine; committed = line .committed; blocks = longer })
   unfolding putLast
   put-holds =
-      let w : Walked put (walkBack (r .count) put) = walk-walked (r .count) put put-sized (omega (arith, h .counted)) in
-      record {
-        limited = h .limited;
-        machine = w .machine ∙ h .machine;
-        committed = w .committed ∙ h .committed;
-        sized = w .sized;
-        room = omega (arith, more-length (line .blocks) b);
-        counted = omega (arith, w .count, h .counted, more-length (line .blocks) b);
-        passed = more-each (line .blocks) b (λ k c. blockRefusal c ≡ 0) (h .passed) passed;
-        placed = placed-walked w (omega (arith, more-length (line .blocks) b)) put-placed;
-        kept = rw split (walk-braked old span old-room (r .count) put put-fits (omega (arith, h .counted, old-length)) put-extends);
-        brakes = rw split (add-keeps (line .committed) old (span ∷ []) (h .brakes));
-        entered = λ q. more-entered (line .blocks) b (line .machine) (line .committed) (h .brakes) (h .entered);
-      }
+      subst (λ (x : Ring). Holds x (record { machine = line .machine; committed = line .committed; blocks = longer }))
+      (sym (λ i. climbed (r .count) (placedLast r (stored-is i)) (new-junction i) (reach-is i)))
+      (go (r .count) (h .counted))
+    where
+      go : (c : ℕ) → c ≡ length (line .blocks) → Holds (climbed c put (span .cap) (span .reach)) (record { machine = line .machine; committed = line .committed; blocks = longer })
+      go zero e =
+          let none : spans ≡ span ∷ [] = split ∙ alone old span (omega (arith, old-length)) in
+          with-stairs _ _ _ (climbed-sized 0 put (span .cap) (span .reach) ∙ h .sized .1)
+          (subst (Climbed (climbed 0 put (span .cap) (span .reach))) (sym none) (first-climbed put (h .sized .1) span))
+      go (suc c) e =
+          let was = h .climbed (omega arith) in
+          with-stairs _ _ _ (climbed-sized 1 put (span .cap) (span .reach) ∙ h .sized .1)
+          (subst (Climbed (climbed 1 put (span .cap) (span .reach))) (sym split)
+          (last-climbed put (h .sized .1) old (omega (arith, old-length)) (omega (arith, old-length))
+          (record { counted = was .counted; stair = was .stair; total = was .total }) span fits))
 
 -- an add that is not refused: its block passes 2 to 6 and there is room
 not-refused : (held : ℕ) (b : Block) → addRefusal held b ≡ 0 → (blockRefusal b ≡ 0) × (held < mostHeld)

@@ -6,6 +6,7 @@ use Prim.Native.Nat.{ℕ, zero, suc}
 use native.Mathlib.Omega.{arith}
 use lib.ListN.{length}
 use Rattle.profile.specs.Passes.{brake}
+use Rattle.profile.specs.Stairs.{Stair}
 use Rattle.machine.specs.Checks.{limitsRefusal}
 use Rattle.machine.specs.Line.{spansOf}
 use Rattle.machine.specs.declared.Block.{Block}
@@ -16,19 +17,20 @@ use Rattle.line.specs.Holds.{Holds}
 use Rattle.line.proofs.Adds.{holds-add}
 use Rattle.line.proofs.Takes.{holds-take}
 
--- A fresh ring holds the fresh line, whatever its places hold.
-pub holds-fresh : (m : Machine) (places : List Place) → limitsRefusal (m .limits) ≡ 0 → length places ≡ mostHeld → Holds (freshRing m places) (freshLine m)
+-- A fresh ring holds the fresh line, whatever its places and stairs hold.
+pub holds-fresh : (m : Machine) (places : List Place) (stairs : List Stair) → limitsRefusal (m .limits) ≡ 0 → length places ≡ mostHeld → length stairs ≡ mostHeld
+    → Holds (freshRing m places stairs) (freshLine m)
 unfolding spansOf brake
-holds-fresh m places e s = record {
+holds-fresh m places stairs e s t = record {
   limited = e;
   machine = refl;
   committed = refl;
-  sized = s;
+  sized = (s, t);
   room = omega arith;
   counted = refl;
   passed = λ k h. absurd (omega arith);
   placed = record { block = λ k h. absurd (omega arith); numbers = λ k h. absurd (omega arith); junction = λ k p h. absurd (omega arith) };
-  kept = λ i p q. absurd (omega arith);
+  climbed = λ h. absurd (omega arith);
   brakes = omega arith;
   entered = λ h. omega arith;
 }

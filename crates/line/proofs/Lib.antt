@@ -3,7 +3,7 @@ pub mod Answers
 pub mod Chains
 pub mod Spans
 pub mod Places
-pub mod Walk
+pub mod Climbs
 pub mod Adds
 pub mod Takes
 pub mod Shows

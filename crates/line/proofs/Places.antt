@@ -3,14 +3,14 @@
 use mathlib.Core.Logic.{_≢_}
 use mathlib.Core.Path.{_≡_, ap, sym, _∙_}
 use mathlib.Core.List.{List}
-use Prim.Native.Nat.{ℕ, _%_, _^_, _<_}
+use Prim.Native.Nat.{ℕ, _+_, _%_, _^_, _<_}
 use native.Mathlib.Nat.{mod-eq-of-lt}
 use native.Mathlib.Omega.{arith}
 use lib.IntN.{ℤ, natAbs}
-use lib.ListN.{length}
+use lib.ListN.{length, getD, set}
 use lib.Seq.{getD-set-same, getD-set-other}
 use Rattle.fields.specs.Signed.{signedOf, bitsOf}
-use Rattle.fields.proofs.Signed.{signed-bits, mag-natAbs}
+use Rattle.fields.proofs.Signed.{signed-bits, signed-mod, bits-signed, cut-back, mag-natAbs}
 use Rattle.profile.specs.Line.{reachAt}
 use Rattle.machine.specs.Checks.{limitsRefusal, blockRefusal}
 use Rattle.machine.specs.Labels.{noBlock, labelledBlock, labelOf}
@@ -24,7 +24,7 @@ use Rattle.machine.proofs.Bounds.{limits-below, moves-below, short}
 use Rattle.machine.proofs.Junctions.{junction-from-numbers}
 use Rattle.machine.proofs.Labels.{label-back}
 use Rattle.line.specs.Blocks.{mostHeld}
-use Rattle.line.specs.Ring.{Place, Ring, noPlace, cutLimits, cutMachine, slot, placeAt, withPlace, blockIn, numbersIn, cutNumbers, placeOf, junctionAfter}
+use Rattle.line.specs.Ring.{Place, Ring, cutLimits, cutMachine, placeAt, blockIn, cutBlock, numbersIn, cutNumbers, placeOf, junctionAfter}
 use Rattle.line.specs.Holds.{Placed}
 use Rattle.machine.proofs.Spans.{spans-reach}
 
@@ -47,9 +47,15 @@ limits-kept l e =
 pub machine-kept : (m : Machine) → limitsRefusal (m .limits) ≡ 0 → cutMachine m ≡ m
 machine-kept m e = λ i. record { limits = limits-kept (m .limits) e i; torque = m .torque }
 
--- a move comes back from its 21 bits
-move-back : (z : ℤ) → natAbs z < 2 ^ 20 → signedOf 21 (bitsOf 21 z) ≡ z
-move-back z h = signed-bits 21 z (omega arith) (omega (arith, mag-natAbs z))
+-- a move comes back from its word,
+move-back : (z : ℤ) → natAbs z < 2 ^ 20 → signedOf 64 (bitsOf 64 z) ≡ z
+move-back z h = signed-bits 64 z (omega arith) (omega (arith, mag-natAbs z))
+
+-- and from the 21 low bits of it
+cut-move : (n : ℕ) (z : ℤ) → signedOf 64 n ≡ z → natAbs z < 2 ^ 20 → signedOf 21 n ≡ signedOf 64 n
+cut-move n z e h =
+    let low : n % 2 ^ 21 ≡ bitsOf 64 z % 2 ^ 21 = omega (arith, bits-signed 64 n, ap (bitsOf 64) e) in
+    sym (signed-mod 21 n) ∙ ap (signedOf 21) low ∙ signed-mod 21 (bitsOf 64 z) ∙ cut-back 64 21 z (omega arith) (omega arith) (omega (arith, mag-natAbs z)) ∙ sym e
 
 -- a block that passes 2 to 6 comes back from its place
 pub block-back : (b : Block) (n : Numbers) (junction : ℕ) → blockRefusal b ≡ 0 → blockIn (placeOf b n junction) ≡ b
@@ -65,22 +71,33 @@ numbers-kept m p a r n =
     let long : p .length % 2 ^ 30 ≡ p .length = omega (arith, ap (λ (k : Numbers). k .length) n, short a r) in
     (λ i. record { length = long i; accel = p .accel; reach = p .reach; cap = p .cap }) ∙ n
 
+-- and so are its moves
+block-kept : (p : Place) (a : Block) → blockRefusal a ≡ 0 → blockIn p ≡ a → cutBlock p ≡ a
+unfolding labelledBlock
+block-kept p a r e =
+    let m = moves-below a r in
+    let x = cut-move (p .x) (a .x) (ap (λ (b : Block). b .x) e) (m .0) in
+    let y = cut-move (p .y) (a .y) (ap (λ (b : Block). b .y) e) (m .1) in
+    let z = cut-move (p .z) (a .z) (ap (λ (b : Block). b .z) e) (m .2) in
+    (λ i. labelledBlock (x i) (y i) (z i) (p .feed) (p .radius) (p .label)) ∙ e
+
 -- the cap of the junction after a place that holds a block with its numbers
 pub junction-back : (m : Machine) (p : Place) (a b : Block) → blockRefusal a ≡ 0 → blockIn p ≡ a → numbersIn p ≡ numbersOf m a
     → junctionAfter (m .limits .jump) p b (numbersOf m b) ≡ junctionCap (m .limits) a b
 unfolding junctionAfter
-junction-back m p a b r e n = (λ i. junctionFrom (m .limits .jump) (e i) (numbers-kept m p a r n i) b (numbersOf m b)) ∙ junction-from-numbers m a b
+junction-back m p a b r e n = (λ i. junctionFrom (m .limits .jump) (block-kept p a r e i) (numbers-kept m p a r n i) b (numbersOf m b)) ∙ junction-from-numbers m a b
 
 -- the reaches of the places are those of the spans
 pub placed-reach : {r : Ring} {m : Machine} {blocks : List Block} → Placed r m blocks → (k : ℕ) → k < length blocks → placeAt r k .reach ≡ reachAt (spansOf m blocks) k
 unfolding numbersOf
 placed-reach {r} {m} {blocks} p k h = ap (λ (n : Numbers). n .reach) (p .numbers k h) ∙ sym (spans-reach noBlock m blocks k h)
 
-module _ (r : Ring) (sized : length (r .places) ≡ mostHeld) where
-  -- what is stored at a place is read there,
-  pub place-same : (k : ℕ) (p : Place) → placeAt (withPlace r k p) k ≡ p
-  place-same k p = getD-set-same (r .places) (slot r k) p noPlace (omega arith)
+-- What is stored in one of two rings, of places and of stairs, is read there,
+module _ {A : Type 0} (none : A) (l : List A) (sized : length l ≡ mostHeld) (first : ℕ) where
+  pub ring-same : (k : ℕ) (v : A) → getD (set l ((first + k) % mostHeld) v) ((first + k) % mostHeld) none ≡ v
+  ring-same k v = getD-set-same l ((first + k) % mostHeld) v none (omega arith)
 
   -- and nowhere else
-  pub place-other : (k j : ℕ) (p : Place) → k < mostHeld → j < mostHeld → j ≢ k → placeAt (withPlace r k p) j ≡ placeAt r j
-  place-other k j p h g d = getD-set-other (r .places) (slot r k) (slot r j) p noPlace (omega arith)
+  pub ring-other : (k j : ℕ) (v : A) → k < mostHeld → j < mostHeld → j ≢ k
+      → getD (set l ((first + k) % mostHeld) v) ((first + j) % mostHeld) none ≡ getD l ((first + j) % mostHeld) none
+  ring-other k j v h g d = getD-set-other l ((first + k) % mostHeld) ((first + j) % mostHeld) v none (omega arith)

@@ -1,19 +1,31 @@
 -- The spans of a line when a block is put last and when the first is taken. From the definition `spansOf`.
 use mathlib.Core.Path.{_≡_, refl, ap}
 use mathlib.Core.List.{List, _∷_, _++_, []}
-use Prim.Native.Nat.{ℕ, suc, _≤_, zero-le}
+use Prim.Native.Nat.{ℕ, suc, _+_, _*_, _≤_, _<_, zero-le}
+use native.Mathlib.Nat.{suc-mul}
 use native.Mathlib.Omega.{arith}
 use lib.ListN.{length, drop}
-use Rattle.profile.specs.Line.{Span, spanAt, capAt}
-use Rattle.profile.specs.Passes.{brake, CanBrake, Braked}
+use Rattle.profile.specs.Line.{Span, spanAt, capAt, reachAt, totalReach}
+use Rattle.profile.specs.Passes.{brake, CanBrake}
 use Rattle.profile.proofs.Plan.{startLimit-head}
-use Rattle.profile.proofs.Kept.{braked-head}
 use Rattle.machine.specs.Line.{spansOf, spansAfter}
 use Rattle.machine.specs.Numbers.{blockCap, junctionCap, reachOf}
 use Rattle.machine.specs.declared.Block.{Block}
 use Rattle.machine.specs.declared.Machine.{Machine}
 use Rattle.machine.proofs.CapLaws.{junction-largest}
 use Rattle.line.specs.Holds.{blockAt}
+
+-- The reaches together, with one span more,
+pub total-last : (line : List Span) (s : Span) → totalReach (line ++ (s ∷ [])) ≡ totalReach line + s .reach
+unfolding totalReach
+total-last [] s = omega arith
+total-last (x ∷ line) s = omega (arith, total-last line s)
+
+-- and at most as many times the most of one as there are.
+pub total-below : (most : ℕ) (line : List Span) → ((k : ℕ) → k < length line → reachAt line k ≤ most) → totalReach line ≤ length line * most
+unfolding totalReach
+total-below most [] h = omega arith
+total-below most (x ∷ line) h = omega (arith, h 0 (omega arith), total-below most line (λ k g. h (suc k) (omega arith)), suc-mul (length line) most)
 
 module _ (m : Machine) where
   -- one more block put last after a block
@@ -42,12 +54,6 @@ module _ (m : Machine) where
     rest-brakes speed [] h = h
     rest-brakes speed (b ∷ blocks) h =
         rw (startLimit-head (record { cap = 0; reach = reachOf m b }) (record { cap = junctionCap (m .limits) a b; reach = reachOf m b }) (spansAfter m b blocks) refl) h
-
-    pub rest-braked : (kept : ℕ → ℕ) (blocks : List Block) → Braked (drop 1 (spansOf m (a ∷ blocks))) kept 1 → Braked (spansOf m blocks) kept 1
-    unfolding spansOf spansAfter
-    rest-braked kept [] h = h
-    rest-braked kept (b ∷ blocks) h =
-        braked-head (record { cap = junctionCap (m .limits) a b; reach = reachOf m b }) (record { cap = 0; reach = reachOf m b }) (spansAfter m b blocks) kept 1 (omega arith) h
 
     -- the backward pass after the first block is within its cap, and within the next block's
     pub rest-under : (blocks : List Block) → brake (drop 1 (spansOf m (a ∷ blocks))) ≤ blockCap (m .limits) a

@@ -1,33 +1,36 @@
 -- A take: a ring that holds a line answers as the line does and holds the rest afterwards. From profile's laws of the plan and
--- those of spans and places.
+-- those of spans, places and stairs.
 use mathlib.Core.Path.{_≡_, refl, ap, subst, _∙_}
 use mathlib.Core.List.{List, _∷_, []}
-use Prim.Native.Nat.{ℕ, zero, suc, _+_, _<_}
-use native.Mathlib.Numerals.{add-one}
+use Prim.Native.Nat.{ℕ, zero, suc, _+_, _-_, _<_}
 use native.Mathlib.Omega.{arith}
 use lib.ListN.{length, drop, getD}
-use Rattle.profile.specs.Line.{Span, capAt, reachAt, numberAt}
-use Rattle.profile.specs.Passes.{brake, exitFrom, planOf, Braked}
+use Rattle.profile.specs.Line.{Span, capAt, reachAt, totalReach, numberAt}
+use Rattle.profile.specs.Passes.{brake, exitFrom, planOf}
+use Rattle.profile.specs.Stairs.{nearer, stairsAfter}
+use Rattle.profile.proofs.Stairs.{after-some, stairs-taken}
 use Rattle.profile.proofs.Plan.{plan-first, plan-exit, take-keeps}
 use Rattle.profile.proofs.Highest.{plan-lawful, plan-highest}
-use Rattle.profile.proofs.Kept.{braked-taken}
 use Rattle.machine.specs.Labels.{noBlock}
-use Rattle.machine.specs.Line.{spansOf}
+use Rattle.machine.specs.Checks.{blockRefusal}
+use Rattle.machine.specs.Line.{spansOf, spansAfter}
 use Rattle.machine.specs.Meaning.{RampIs}
-use Rattle.machine.specs.Numbers.{numbersOf, reachFrom, peakOf, rampOf, Rampable}
+use Rattle.machine.specs.Numbers.{numbersOf, junctionCap, reachFrom, reachOf, peakOf, rampOf, Rampable}
 use Rattle.machine.specs.declared.Block.{Block}
 use Rattle.machine.specs.declared.Machine.{Machine}
+use Rattle.machine.proofs.Reaches.{reach-above}
 use Rattle.machine.proofs.Rampables.{rampable-holds}
 use Rattle.machine.proofs.RampLaws.{numbers-rampable, ramp-is}
 use Rattle.line.specs.declared.Given.{Given}
 use Rattle.line.specs.Answers.{gave, givenOf, givenBetween, answerBy}
-use Rattle.line.specs.Blocks.{Line, Call, add, take, addRefusal, takeAnswer, takeAfter, lineAnswer, lineAfter}
-use Rattle.line.specs.Ring.{Place, Ring, noPlace, placeAt, blockIn, numbersIn, givenIn, takenFrom, takenAnswer, takenIn, ringAnswer, ringAfter}
-use Rattle.line.specs.Holds.{keptAt, Placed, Holds}
+use Rattle.line.specs.Blocks.{mostHeld, Line, Call, add, take, addRefusal, takeAnswer, takeAfter, lineAnswer, lineAfter}
+use Rattle.line.specs.Ring.{Place, Ring, noPlace, placeAt, blockIn, numbersIn, startIn, exitIn, givenIn, lowered, takenFrom, takenAnswer, takenIn, ringAnswer, ringAfter}
+use Rattle.line.specs.Holds.{blockAt, Placed, Climbed, Holds}
 use Rattle.line.specs.Demand.{GivenFrom}
 use Rattle.machine.proofs.Spans.{spans-length, spans-reach}
-use Rattle.line.proofs.Spans.{rest-cap, rest-brakes, rest-braked, rest-under, rest-entered}
+use Rattle.line.proofs.Spans.{rest-cap, rest-brakes, rest-under, rest-entered}
 use Rattle.line.proofs.Places.{placed-reach}
+use Rattle.line.proofs.Climbs.{lowered-sized, start-brakes, lowered-climbed}
 
 -- the reach among a block's numbers is that of its acceleration and length
 reach-own : (m : Machine) (a : Block) → numbersOf m a .reach ≡ reachFrom (numbersOf m a .accel) (numbersOf m a .length)
@@ -54,9 +57,21 @@ module _ {r : Ring} {m : Machine} {committed : ℕ} {a : Block} {rest : List Blo
   exit-is : exit ≡ exitFrom committed (reachAt spans 0) (brake (drop 1 spans))
   exit-is = plan-exit committed spans (h .brakes) some
 
+  -- the stairs that the ring has
+  stairs-right : Climbed r spans
+  stairs-right = h .climbed (omega arith)
+
+  reach-first : placeAt r 0 .reach ≡ reachAt spans 0
+  reach-first = placed-reach (h .placed) 0 (omega arith)
+
+  -- the backward pass after the first block by them
+  start-right : startIn r - placeAt r 0 .reach ≡ brake (drop 1 spans)
+  unfolding spansOf
+  start-right = ap (λ (n : ℕ). startIn r - n) reach-first ∙ start-brakes r (record { cap = 0; reach = reachOf m a }) (spansAfter m a rest) stairs-right
+
   -- what the ring has for the exit
-  exit-right : exitFrom (r .committed) (placeAt r 0 .reach) (placeAt r 0 .brake) ≡ exit
-  exit-right = omega (arith, h .committed, placed-reach (h .placed) 0 (omega arith), h .kept 1 (omega arith) some, exit-is)
+  exit-right : exitIn r ≡ exit
+  exit-right = omega (arith, h .committed, reach-first, start-right, exit-is)
 
   -- the plan's first two numbers are within the block's cap and reach,
   ramped : Rampable (numbersOf m a) committed exit
@@ -108,15 +123,24 @@ module _ {r : Ring} {m : Machine} {committed : ℕ} {a : Block} {rest : List Blo
       junction (suc k) p g =
           ap (λ (p : Place). p .junction) (shifted (suc k)) ∙ h .placed .junction (suc (suc k)) (omega arith) (omega arith) ∙ rest-cap m a rest k
 
-  -- with the brakes of the rest's backward pass,
-  taken-kept : Braked (spansOf m rest) (keptAt (takenFrom r)) 1
-  taken-kept =
-      rest-braked m a (keptAt (takenFrom r)) rest
-      λ i p q. same i p ∙ braked-taken spans (keptAt r) 1 some (λ j s t. h .kept j (omega arith) t) i p q
+  -- with the stairs of the rest, where it has blocks,
+  lowered-stairs : 0 < length rest → Climbed (lowered r (placeAt r 0 .reach)) (spansOf m rest)
+  unfolding spansOf spansAfter stairsAfter totalReach
+  lowered-stairs g = go rest g (omega (arith, h .room)) (h .passed 1 (omega arith)) reach-first stairs-right
     where
-      same : (i : ℕ) → 0 < i → keptAt (takenFrom r) i ≡ keptAt r (i + 1)
-      same zero p = absurd (omega arith)
-      same (suc k) p = rw (add-one (suc k)) (ap (λ (p : Place). p .brake) (shifted k))
+      go : (bs : List Block) → 0 < length bs → length bs < mostHeld → blockRefusal (blockAt bs 0) ≡ 0 → placeAt r 0 .reach ≡ reachOf m a
+          → Climbed r (spansOf m (a ∷ bs)) → Climbed (lowered r (placeAt r 0 .reach)) (spansOf m bs)
+      go [] g few p e c = absurd (omega arith)
+      go (b ∷ bs) g few p e c =
+          lowered-climbed r (h .sized .1) (spansOf m (a ∷ b ∷ bs)) (spansOf m (b ∷ bs)) (omega (arith, spans-length m (a ∷ b ∷ bs))) c (placeAt r 0 .reach)
+          (ap (λ (n : ℕ). nearer n (stairsAfter (spansOf m (a ∷ b ∷ bs)))) e
+          ∙ stairs-taken (record { cap = 0; reach = reachOf m a }) (record { cap = junctionCap (m .limits) a b; reach = reachOf m b }) (spansAfter m b bs) (reach-above m b p))
+          (omega arith)
+          (after-some (spansOf m (b ∷ bs)) (omega arith))
+
+  taken-stairs : 0 < length rest → Climbed (takenFrom r) (spansOf m rest)
+  unfolding takenFrom
+  taken-stairs g = let c = lowered-stairs g in record { counted = c .counted; stair = c .stair; total = c .total }
 
   -- so the ring holds the rest
   taken-holds : Holds (takenFrom r) (lineOf m exit rest)
@@ -125,12 +149,12 @@ module _ {r : Ring} {m : Machine} {committed : ℕ} {a : Block} {rest : List Blo
     limited = h .limited;
     machine = h .machine;
     committed = exit-right;
-    sized = h .sized;
+    sized = (h .sized .0, lowered-sized r (placeAt r 0 .reach) ∙ h .sized .1);
     room = omega (arith, h .room);
     counted = omega (arith, h .counted);
     passed = λ k g. h .passed (suc k) (omega arith);
     placed = taken-placed;
-    kept = taken-kept;
+    climbed = taken-stairs;
     brakes = rest-brakes m a exit rest (take-keeps committed spans);
     entered = λ g. omega (arith, exit-is, rest-entered m a rest);
   }

@@ -1,12 +1,15 @@
--- The ring of 64 places that holds a line, number by number as it stands in memory, and what a call answers and leaves there.
+-- The ring of 64 places that holds a line and the ring of its stairs, number by number as they stand in memory, and what a call answers and leaves there.
 -- Every content of the memory has an answer; what is read is cut to the size that the arithmetic takes.
 use mathlib.Core.List.{List, _∷_, []}
-use mathlib.Core.Bool.{true, false, cond}
+use mathlib.Core.Bool.{Bool, cond}
 use Prim.Native.Nat.{ℕ, zero, suc, _+_, _-_, _%_, _^_, min}
 use lib.Dec.{eqb}
 use lib.ListN.{getD, set}
 use Rattle.fields.specs.Signed.{signedOf, bitsOf}
-use Rattle.profile.specs.Passes.{brakeFrom, exitFrom}
+use Rattle.profile.specs.Line.{Span}
+use Rattle.profile.specs.Passes.{exitFrom, forward}
+use Rattle.profile.specs.declared.Stay.{Stay}
+use Rattle.profile.specs.Stairs.{Stair, stair, noStair, stayFrom}
 use Rattle.machine.specs.Labels.{labelledBlock, labelOf}
 use Rattle.machine.specs.Numbers.{numbersOf, junctionFrom}
 use Rattle.machine.specs.declared.Axes.{Axes}
@@ -18,8 +21,7 @@ use Rattle.line.specs.declared.Given.{Given}
 use Rattle.line.specs.Answers.{Answer, gave, refused, answerBy, givenBetween}
 use Rattle.line.specs.Blocks.{mostHeld, Call, add, take, addRefusal}
 
--- one place: a block, its numbers, the cap of the junction where it begins, and the greatest squared speed at its end
--- from which the blocks after it can still brake. A move is kept as its 21 bits.
+-- one place: a block, its numbers, and the cap of the junction where it begins. A move is kept as a word of 64 bits.
 pub record Place : Type 0 where
   pub x : ℕ
   pub y : ℕ
@@ -32,7 +34,6 @@ pub record Place : Type 0 where
   pub reach : ℕ
   pub cap : ℕ
   pub junction : ℕ
-  pub brake : ℕ
 
 -- the memory of a planner
 pub record Ring : Type 0 where
@@ -41,10 +42,15 @@ pub record Ring : Type 0 where
   pub first : ℕ
   pub count : ℕ
   pub committed : ℕ
+  -- where the first stair stands, how many stairs stand before the line's end, the reaches of all blocks held together
+  pub firstStair : ℕ
+  pub stairsBefore : ℕ
+  pub total : ℕ
   pub places : List Place
+  pub stairs : List Stair
 
 abbrev pub noPlace : Place
-noPlace = record { x = 0; y = 0; z = 0; feed = 0; radius = 0; label = 0; length = 0; accel = 0; reach = 0; cap = 0; junction = 0; brake = 0 }
+noPlace = record { x = 0; y = 0; z = 0; feed = 0; radius = 0; label = 0; length = 0; accel = 0; reach = 0; cap = 0; junction = 0 }
 
 -- the limits as they are used
 abbrev pub cutAxes : Axes → Axes
@@ -70,22 +76,30 @@ slot r k = (r .first + k) % mostHeld
 abbrev pub placeAt : Ring → ℕ → Place
 placeAt r k = getD (r .places) (slot r k) noPlace
 
-abbrev pub withPlace : Ring → ℕ → Place → Ring
-withPlace r k p = record { machine = r .machine; first = r .first; count = r .count; committed = r .committed; places = set (r .places) (slot r k) p }
+-- stair j of the line, stair 0 the first; the line's end stands behind the last
+abbrev pub stairSlot : Ring → ℕ → ℕ
+stairSlot r j = (r .firstStair + j) % mostHeld
+
+abbrev pub stairAt : Ring → ℕ → Stair
+stairAt r j = getD (r .stairs) (stairSlot r j) noStair
 
 abbrev pub blockIn : Place → Block
-blockIn p = labelledBlock (signedOf 21 (p .x)) (signedOf 21 (p .y)) (signedOf 21 (p .z)) (p .feed) (p .radius) (p .label)
+blockIn p = labelledBlock (signedOf 64 (p .x)) (signedOf 64 (p .y)) (signedOf 64 (p .z)) (p .feed) (p .radius) (p .label)
+
+-- the same with moves of 21 bits, as a corner is worked out from them
+abbrev pub cutBlock : Place → Block
+cutBlock p = labelledBlock (signedOf 21 (p .x)) (signedOf 21 (p .y)) (signedOf 21 (p .z)) (p .feed) (p .radius) (p .label)
 
 abbrev pub numbersIn : Place → Numbers
 numbersIn p = record { length = p .length; accel = p .accel; reach = p .reach; cap = p .cap }
 
--- a block with its numbers as a place; nothing after it can be braked in yet
+-- a block with its numbers as a place
 abbrev pub placeOf : Block → Numbers → (junction : ℕ) → Place
 placeOf b n junction =
     record {
-      x = bitsOf 21 (b .x);
-      y = bitsOf 21 (b .y);
-      z = bitsOf 21 (b .z);
+      x = bitsOf 64 (b .x);
+      y = bitsOf 64 (b .y);
+      z = bitsOf 64 (b .z);
       feed = b .feed;
       radius = b .radius;
       label = labelOf b;
@@ -94,7 +108,6 @@ placeOf b n junction =
       reach = n .reach;
       cap = n .cap;
       junction = junction;
-      brake = 0;
     }
 
 -- the number told
@@ -107,7 +120,7 @@ cutNumbers p = record { length = p .length % 2 ^ 30; accel = p .accel; reach = p
 
 -- the cap of the junction between a held block and a new one
 unfoldable pub junctionAfter : (jump : ℕ) → Place → Block → Numbers → ℕ
-junctionAfter jump p b n = junctionFrom jump (blockIn p) (cutNumbers p) b n
+junctionAfter jump p b n = junctionFrom jump (cutBlock p) (cutNumbers p) b n
 
 -- the same for the block after all held ones; the first block of a line begins at junction 0, which has none
 abbrev pub newJunction : Ring → Block → ℕ
@@ -115,60 +128,110 @@ newJunction r b =
     let m = cutMachine (r .machine) in
     cond (eqb (r .count) 0) 0 (junctionAfter (m .limits .jump) (placeAt r (r .count - 1)) b (numbersOf m b))
 
-abbrev pub withBrake : Place → ℕ → Place
-withBrake p v =
+-- the stairs that stay where a junction with a cap is put behind them
+abbrev pub stayIn : Ring → (cap : ℕ) → Stay
+stayIn r cap = let s = r .stairsBefore % mostHeld in stayFrom (stairAt r) s ((stairAt r s .gap + cap) % 2 ^ 64)
+
+-- the ring with other stairs
+abbrev pub withStairs : Ring → (before total : ℕ) → List Stair → Ring
+withStairs r before total stairs =
     record {
-      x = p .x;
-      y = p .y;
-      z = p .z;
-      feed = p .feed;
-      radius = p .radius;
-      label = p .label;
-      length = p .length;
-      accel = p .accel;
-      reach = p .reach;
-      cap = p .cap;
-      junction = p .junction;
-      brake = v;
+      machine = r .machine;
+      first = r .first;
+      count = r .count;
+      committed = r .committed;
+      firstStair = r .firstStair;
+      stairsBefore = before;
+      total = total;
+      places = r .places;
+      stairs = stairs;
     }
 
--- the greatest squared speed where block k begins from which it and the blocks after it can brake
-abbrev pub brakeAt : Ring → ℕ → ℕ
-brakeAt r k = brakeFrom (placeAt r k .junction) (placeAt r k .reach) (placeAt r k .brake)
+-- the line's end behind so many stairs, a reach after the last, and the total of the reaches
+abbrev pub ended : Ring → (before reach total : ℕ) → Ring
+ended r before reach total = withStairs r before total (set (r .stairs) (stairSlot r before) (stair reach 0))
 
--- the walk back from block k: each block before it gets its brake anew, until one has it already
-unfoldable pub walkBack : (k : ℕ) → Ring → Ring
-walkBack zero r = r
-walkBack (suc k) r = elim (eqb (placeAt r k .brake) (brakeAt r (suc k))) [ true ↦ r | false ↦ walkBack k (withPlace r k (withBrake (placeAt r k) (brakeAt r (suc k)))) ]
+-- the stairs of a block's junction and of its end, put behind those that stay. The first block of a line has its end alone.
+abbrev pub climbed : (held : ℕ) → Ring → (cap reach : ℕ) → Ring
+climbed zero r cap reach = ended r 0 reach reach
+climbed (suc n) r cap reach =
+    let w = stayIn r cap in
+    ended (withStairs r (r .stairsBefore) (r .total) (set (r .stairs) (stairSlot r (w .count)) (stair (w .allows - cap) cap))) (w .count + 1) reach ((r .total + reach) % 2 ^ 64)
+
+-- the ring with a place behind those held
+abbrev pub placedLast : Ring → Place → Ring
+placedLast r p =
+    record {
+      machine = r .machine;
+      first = r .first;
+      count = r .count + 1;
+      committed = r .committed;
+      firstStair = r .firstStair;
+      stairsBefore = r .stairsBefore;
+      total = r .total;
+      places = set (r .places) (slot r (r .count)) p;
+      stairs = r .stairs;
+    }
 
 -- a block put last
 unfoldable pub putLast : Ring → Block → Ring
 putLast r b =
-    let p = placeOf b (numbersOf (cutMachine (r .machine)) b) (newJunction r b) in
-    walkBack (r .count)
-    (record { machine = r .machine; first = r .first; count = r .count + 1; committed = r .committed; places = set (r .places) (slot r (r .count)) p })
+    let n = numbersOf (cutMachine (r .machine)) b in
+    let junction = newJunction r b in
+    climbed (r .count) (placedLast r (placeOf b n junction)) junction (n .reach)
 
 abbrev pub addedIn : ℕ → Ring → Block → Ring
 addedIn zero r b = putLast r b
 addedIn (suc n) r b = r
 
+-- the greatest squared speed where the line begins from which it can brake: by its first stair, and by its end
+abbrev pub startIn : Ring → ℕ
+startIn r = min (r .total) (stairAt r 0 .gap + stairAt r 0 .cap)
+
+-- the exit of the first block
+abbrev pub exitIn : Ring → ℕ
+exitIn r = exitFrom (r .committed) (placeAt r 0 .reach) (startIn r - placeAt r 0 .reach)
+
 -- the first block given out
 unfoldable pub givenIn : Ring → Given
-givenIn r =
-    let p = placeAt r 0 in
-    let exit = exitFrom (r .committed) (p .reach) (p .brake) in
-    givenBetween (blockIn p) (numbersIn p) (r .committed) exit
+givenIn r = givenBetween (blockIn (placeAt r 0)) (numbersIn (placeAt r 0)) (r .committed) (exitIn r)
 
--- what is held after that
-unfoldable pub takenFrom : Ring → Ring
-takenFrom r =
+-- the stairs without the reach of the first block: the first gap falls by it, and the first stair goes where nothing is left of its gap
+abbrev pub loweredBy : (gone : Bool) → Ring → (reach left : ℕ) → Ring
+loweredBy gone r reach left =
     record {
       machine = r .machine;
-      first = (r .first + 1) % mostHeld;
-      count = r .count - 1;
-      committed = exitFrom (r .committed) (placeAt r 0 .reach) (placeAt r 0 .brake);
+      first = r .first;
+      count = r .count;
+      committed = r .committed;
+      firstStair = cond gone ((r .firstStair + 1) % mostHeld) (r .firstStair);
+      stairsBefore = cond gone (r .stairsBefore - 1) (r .stairsBefore);
+      total = r .total - reach;
       places = r .places;
+      stairs = cond gone (r .stairs) (set (r .stairs) (stairSlot r 0) (stair left (stairAt r 0 .cap)));
     }
+
+abbrev pub lowered : Ring → (reach : ℕ) → Ring
+lowered r reach = let left = stairAt r 0 .gap - reach in loweredBy (eqb left 0) r reach left
+
+-- the ring behind the first block
+abbrev pub moved : Ring → (first count committed : ℕ) → Ring
+moved r first count committed =
+    record {
+      machine = r .machine;
+      first = first;
+      count = count;
+      committed = committed;
+      firstStair = r .firstStair;
+      stairsBefore = r .stairsBefore;
+      total = r .total;
+      places = r .places;
+      stairs = r .stairs;
+    }
+
+-- what is held after the first block was given out
+unfoldable pub takenFrom : Ring → Ring
+takenFrom r = moved (lowered r (placeAt r 0 .reach)) ((r .first + 1) % mostHeld) (r .count - 1) (exitIn r)
 
 abbrev pub takenAnswer : (count : ℕ) → Ring → Answer
 takenAnswer zero r = refused 8
@@ -187,13 +250,19 @@ unfoldable pub ringAfter : Ring → Call → Ring
 ringAfter r (add b) = addedIn (addRefusal (r .count) b) r b
 ringAfter r take = takenIn (r .count) r
 
--- the plan shown, from block k of those held and its entry, for n blocks more
-unfoldable pub speedsFrom : Ring → (n k entry : ℕ) → List ℕ
-speedsFrom r zero k entry = entry ∷ []
-speedsFrom r (suc n) k entry = entry ∷ speedsFrom r n (suc k) (exitFrom entry (placeAt r k .reach) (placeAt r k .brake))
+-- the cap of the junction where block k begins; the first block's is never read
+abbrev pub capIn : Ring → ℕ → ℕ
+capIn r zero = 0
+capIn r (suc k) = placeAt r (suc k) .junction
 
+-- what a profile knows of n blocks, from block k of those held on
+unfoldable pub spansIn : Ring → (n k : ℕ) → List Span
+spansIn r zero k = []
+spansIn r (suc n) k = record { cap = capIn r k; reach = placeAt r k .reach } ∷ spansIn r n (suc k)
+
+-- the plan shown: the two passes over the blocks held
 abbrev pub shownIn : Ring → List ℕ
-shownIn r = speedsFrom r (toldOf r) 0 (r .committed)
+shownIn r = forward (r .committed) (spansIn r (toldOf r) 0)
 
 -- refusal 11, or 0
 abbrev pub showRefusal : Ring → (listLength : ℕ) → ℕ
@@ -208,6 +277,7 @@ unfoldable pub ringAfterAll : Ring → List Call → Ring
 ringAfterAll r [] = r
 ringAfterAll r (c ∷ calls) = ringAfterAll (ringAfter r c) calls
 
--- a fresh planner: its places hold whatever they held
-abbrev pub freshRing : Machine → List Place → Ring
-freshRing m places = record { machine = m; first = 0; count = 0; committed = 0; places = places }
+-- a fresh planner: its places and stairs hold whatever they held
+abbrev pub freshRing : Machine → List Place → List Stair → Ring
+freshRing m places stairs =
+    record { machine = m; first = 0; count = 0; committed = 0; firstStair = 0; stairsBefore = 0; total = 0; places = places; stairs = stairs }

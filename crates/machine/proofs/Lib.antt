@@ -10,6 +10,7 @@ pub mod LengthLaws
 pub mod Limited
 pub mod RampLaws
 pub mod Rampables
+pub mod Reaches
 pub mod Runs
 pub mod Spans
 pub mod TorqueLaws

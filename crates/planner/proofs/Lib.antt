@@ -1,5 +1,7 @@
+pub mod Blocks
+pub mod Climbs
 pub mod Demand
 pub mod Determined
 pub mod Outcomes
-pub mod Passes
+pub mod Shows
 pub mod View

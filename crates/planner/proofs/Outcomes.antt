@@ -67,7 +67,7 @@ module _ (m : List ℕ) (sized : length m ≡ memorySize) (l : Limits) (loaded :
         answer = e;
         after = v ∙ ap (λ (k : ℕ). freshIn k (viewOf m) (machineOf l loaded)) e;
         unchanged = λ p. absurd (omega arith);
-        line = λ z. rw v (holds-fresh (machineOf l loaded) (viewOf m .places) (then-zero _ (sym e) .0) (view-sized m));
+        line = λ z. rw v (holds-fresh (machineOf l loaded) (viewOf m .places) (viewOf m .stairs) (then-zero _ (sym e) .0) (view-sized m .0) (view-sized m .1));
       }
 
 -- An add that is refused by a number changes nothing.

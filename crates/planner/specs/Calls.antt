@@ -1,9 +1,10 @@
 -- What the calls of a planner promise: the answer, and every number of the memory afterwards.
 use mathlib.Core.List.{List}
 use mathlib.Core.Path.{_≡_}
-use Prim.Native.Nat.{ℕ, zero, suc, _<_}
+use Prim.Native.Nat.{ℕ, zero, suc, _+_, _<_}
 use lib.ListN.{length}
-use Rattle.profile.specs.Passes.{brakeFrom, exitFrom}
+use Rattle.profile.specs.Line.{numberAt}
+use Rattle.profile.specs.Passes.{Braked}
 use Rattle.machine.specs.Torque.{machineOf, machineRefusal}
 use Rattle.machine.specs.declared.Limits.{Limits}
 use Rattle.machine.specs.declared.Machine.{Machine}
@@ -13,15 +14,8 @@ use Rattle.line.specs.Chains.{Chain}
 use Rattle.line.specs.Demand.{ShownOf}
 use Rattle.line.specs.Holds.{Holds}
 use Rattle.line.specs.declared.Given.{Given}
-use Rattle.line.specs.Ring.{Place, Ring, givenIn, takenFrom, freshRing, ringAnswer, ringAfter, toldOf, shownIn, showRefusal}
+use Rattle.line.specs.Ring.{Ring, spansIn, givenIn, takenFrom, freshRing, ringAnswer, ringAfter, toldOf, shownIn, showRefusal}
 use Rattle.planner.specs.View.{memorySize, viewOf}
-
--- the backward and the forward step of a place's block
-abbrev pub brakeIn : Place → ℕ
-brakeIn p = brakeFrom (p .junction) (p .reach) (p .brake)
-
-abbrev pub exitIn : Place → (entry : ℕ) → ℕ
-exitIn p entry = exitFrom entry (p .reach) (p .brake)
 
 -- A memory that holds a ring.
 pub record Memory (ring : Ring) (m : List ℕ) : Type 0 where
@@ -32,6 +26,11 @@ pub record Memory (ring : Ring) (m : List ℕ) : Type 0 where
 pub record GaveFirst (entry : List ℕ) (out : Given) (exit : List ℕ) : Type 0 where
   pub given : out ≡ givenIn (viewOf entry)
   pub held : Memory (takenFrom (viewOf entry)) exit
+
+-- A list that holds the backward pass over n blocks held, from junction 1 on.
+pub record BrakedHeld (m : List ℕ) (n : ℕ) (list : List ℕ) : Type 0 where
+  pub sized : length list ≡ n + 1
+  pub braked : Braked (spansIn (viewOf m) n 0) (numberAt list) 1
 
 -- A memory that holds a line of blocks. A client needs to know no more of it than what the promises below say.
 abbrev pub MemoryHolds : List ℕ → Line → Type 0
@@ -56,7 +55,7 @@ CalledAll = Chain Called
 
 -- A fresh planner of a machine, or a refusal and no change.
 abbrev pub freshIn : (refusal : ℕ) → Ring → Machine → Ring
-freshIn zero r m = freshRing m (r .places)
+freshIn zero r m = freshRing m (r .places) (r .stairs)
 freshIn (suc n) r m = r
 
 -- a fresh planner of limits and loaded torque steps, or refusal 1, then 14

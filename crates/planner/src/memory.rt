@@ -2,17 +2,17 @@
 // memory whatever it holds.
 ghost use mathlib.Core.Path.{_≡_};
 ghost use mathlib.Core.List.{[]};
-ghost use mathlib.Core.Bool.{cond};
-ghost use Prim.Native.Nat.{_+_, _-_, _%_, _≤_};
-ghost use lib.Dec.{leb};
+ghost use Prim.Native.Nat.{_+_, _%_, _≤_};
 ghost use lib.ListN.{length};
 ghost use lib.Seq.{sets};
 ghost use Rattle.line.specs.Blocks.{mostHeld};
-ghost use Rattle.line.specs.Ring.{blockIn, cutAxes, cutLimits, cutMachine, cutNumbers, freshRing, numbersIn, placeOf};
-ghost use Rattle.planner.specs.View.{baseOf, headNumbers, lastBase, machineFrom, memorySize, numbersFor, placeFrom, placeSize};
-ghost use Rattle.planner.specs.Calls.{brakeIn, exitIn};
-use fields::to_bits;
+ghost use Rattle.profile.specs.Passes.{brakeFrom};
+ghost use Rattle.profile.specs.Stairs.{stair};
+ghost use Rattle.line.specs.Ring.{blockIn, cutAxes, cutBlock, cutLimits, cutMachine, cutNumbers, freshRing, numbersIn, placeOf};
+ghost use Rattle.planner.specs.View.{baseOf, headNumbers, lastBase, lastStair, machineFrom, memorySize, numbersFor, placeFrom, stairBase, stairNumbers};
+use fields::signed_word;
 use fields::to_signed;
+use fields::to_word;
 use machine::Axes;
 use machine::Block;
 use machine::Limits;
@@ -23,20 +23,22 @@ use machine::blocks::labelled_block;
 use machine::lists::limits_from;
 use machine::lists::store_limits;
 use profile::brake_from;
-use profile::exit_from;
 
 // Blocks that a planner holds at most.
 pub const PLACES: u64 = 64;
-// Numbers of the head, of a place, and of the memory; where the last place begins.
-const HEAD: usize = 13;
+// Numbers of the head, of a place, of a stair, and of the memory; where the stairs begin.
+const HEAD: usize = 16;
 
-const PLACE: usize = 12;
+const PLACE: usize = 11;
 
-pub const NUMBERS: usize = HEAD + PLACE * PLACES as usize;
+const STAIR: usize = 2;
 
-const LAST: usize = NUMBERS - PLACE;
+const STAIRS: usize = HEAD + PLACE * PLACES as usize;
+
+pub const NUMBERS: usize = STAIRS + STAIR * PLACES as usize;
 // The head, behind nine limits: the place of the first block, how many blocks are held, the committed
-// squared speed, and the torque.
+// squared speed, the torque, where the first stair stands, how many stairs stand before the line's end,
+// and the reaches of all blocks held together.
 pub const FIRST: usize = 9;
 
 pub const COUNT: usize = 10;
@@ -44,9 +46,14 @@ pub const COUNT: usize = 10;
 pub const COMMITTED: usize = 11;
 
 const TORQUE: usize = 12;
-// A place, from its first number on: the moves as 21 bits each, feed, radius, label, the block's
-// numbers, the cap of the junction where it begins, and the greatest squared speed at its end from
-// which the blocks after it can brake.
+
+pub const FIRST_STAIR: usize = 13;
+
+pub const STAIRS_BEFORE: usize = 14;
+
+pub const TOTAL: usize = 15;
+// A place, from its first number on: the moves as words, feed, radius, label, the block's numbers, and
+// the cap of the junction where it begins.
 const X: usize = 0;
 
 const Y: usize = 1;
@@ -68,9 +75,11 @@ const REACH: usize = 8;
 const CAP: usize = 9;
 
 const JUNCTION: usize = 10;
+// A stair, from its first number on: the reaches since the stair before, and its cap, (µm/s)².
+pub const GAP: usize = 0;
 
-pub const BRAKE: usize = 11;
-// Bits of a move.
+pub const STAIR_CAP: usize = 1;
+// Bits of a move that a corner is worked out from.
 const MOVE_BITS: usize = 21;
 // Limits are used below this.
 const LIMIT_END: u64 = 0x1_0000_0000;
@@ -84,15 +93,11 @@ pub fn place(first: u64, k: u64) -> usize
     HEAD + PLACE * ((first % PLACES + k % PLACES) % PLACES) as usize
 }
 
-// Where the numbers of the place before begin, from where those of a place do; before the first place
-// comes the last.
-pub fn place_before(at: usize) -> usize
-    ensures { λ r. ⌜ r ≡ cond (leb at (baseOf 0)) lastBase (at - placeSize) ⌝ }
+// Where the numbers of stair j begin, stair 0 at `first`.
+pub fn stair_place(first: u64, j: u64) -> usize
+    ensures { λ r. ⌜ (r ≡ stairBase ((first + j) % mostHeld)) × (r ≤ lastStair) ⌝ }
 {
-    if at <= HEAD {
-        return LAST;
-    }
-    at - PLACE
+    STAIRS + STAIR * ((first % PLACES + j % PLACES) % PLACES) as usize
 }
 
 // Limits cut to 32 bits.
@@ -136,6 +141,25 @@ pub fn block_in(memory: &[u64], at: usize) -> Block
     requires { ⌜ (length (now memory) ≡ memorySize) × (at ≤ lastBase) ⌝ }
     ensures { λ r. ⌜ r ≡ blockIn (placeFrom (now (memory .entry)) at) ⌝ }
 {
+    let x = signed_word(memory[at + X]);
+    let y = signed_word(memory[at + Y]);
+    let z = signed_word(memory[at + Z]);
+    labelled_block(
+        x,
+        y,
+        z,
+        memory[at + FEED],
+        memory[at + RADIUS],
+        memory[at + LABEL],
+    )
+}
+
+// The same with its moves cut to 21 bits, as the cap of the junction behind the block is worked out from
+// them.
+pub fn cut_block_in(memory: &[u64], at: usize) -> Block
+    requires { ⌜ (length (now memory) ≡ memorySize) × (at ≤ lastBase) ⌝ }
+    ensures { λ r. ⌜ r ≡ cutBlock (placeFrom (now (memory .entry)) at) ⌝ }
+{
     let x = to_signed(memory[at + X], MOVE_BITS);
     let y = to_signed(memory[at + Y], MOVE_BITS);
     let z = to_signed(memory[at + Z], MOVE_BITS);
@@ -177,25 +201,24 @@ pub fn cut_numbers_in(memory: &[u64], at: usize) -> Numbers
     }
 }
 
-// The greatest squared speed where a place's block begins from which it and the blocks after it can
-// brake, (µm/s)². The place's own brake is handed in: the walk back has just stored it, and reading it
-// again would wait for the store.
-pub fn brake_at(memory: &[u64], at: usize, brake: u64) -> u64
-    requires { ⌜ (length (now memory) ≡ memorySize) × (at ≤ lastBase) × (brake ≡ placeFrom (now memory) at .brake) ⌝ }
-    ensures { λ r. ⌜ r ≡ brakeIn (placeFrom (now (memory .entry)) at) ⌝ }
-{
-    brake_from(memory[at + JUNCTION], memory[at + REACH], brake)
-}
-
-// The squared speed at the end of a place's block, from its entry.
-pub fn exit_at(memory: &[u64], at: usize, entry: u64) -> u64
+// The reach of a place's block, (µm/s)².
+pub fn reach_at(memory: &[u64], at: usize) -> u64
     requires { ⌜ (length (now memory) ≡ memorySize) × (at ≤ lastBase) ⌝ }
-    ensures { λ r. ⌜ r ≡ exitIn (placeFrom (now (memory .entry)) at) entry ⌝ }
+    ensures { λ r. ⌜ r ≡ placeFrom (now (memory .entry)) at .reach ⌝ }
 {
-    exit_from(entry, memory[at + REACH], memory[at + BRAKE])
+    memory[at + REACH]
 }
 
-// Stores a block with its numbers in a place; nothing after it can be braked in yet.
+// The greatest squared speed where a place's block begins, under its junction cap, from which it can
+// brake to `after` at its end, (µm/s)².
+pub fn brake_at(memory: &[u64], at: usize, after: u64) -> u64
+    requires { ⌜ (length (now memory) ≡ memorySize) × (at ≤ lastBase) ⌝ }
+    ensures { λ r. ⌜ r ≡ brakeFrom (placeFrom (now (memory .entry)) at .junction) (placeFrom (now (memory .entry)) at .reach) after ⌝ }
+{
+    brake_from(memory[at + JUNCTION], memory[at + REACH], after)
+}
+
+// Stores a block with its numbers in a place.
 pub fn store_place(memory: &mut [u64], at: usize, b: Block, n: Numbers, junction: u64)
     requires { ⌜ (length (now memory) ≡ memorySize) × (at ≤ lastBase) ⌝ }
     ensures { λ r. ⌜ now (memory .exit) ≡ sets (now (memory .entry)) at (numbersFor (placeOf b n junction)) ⌝ }
@@ -203,9 +226,9 @@ pub fn store_place(memory: &mut [u64], at: usize, b: Block, n: Numbers, junction
     let x = b.x;
     let y = b.y;
     let z = b.z;
-    memory[at + X] = to_bits(x, MOVE_BITS);
-    memory[at + Y] = to_bits(y, MOVE_BITS);
-    memory[at + Z] = to_bits(z, MOVE_BITS);
+    memory[at + X] = to_word(x);
+    memory[at + Y] = to_word(y);
+    memory[at + Z] = to_word(z);
     memory[at + FEED] = b.feed;
     memory[at + RADIUS] = b.radius;
     memory[at + LABEL] = label_of(b);
@@ -214,13 +237,21 @@ pub fn store_place(memory: &mut [u64], at: usize, b: Block, n: Numbers, junction
     memory[at + REACH] = n.reach;
     memory[at + CAP] = n.cap;
     memory[at + JUNCTION] = junction;
-    memory[at + BRAKE] = 0;
+}
+
+// Stores a stair.
+pub fn store_stair(memory: &mut [u64], at: usize, gap: u64, cap: u64)
+    requires { ⌜ (length (now memory) ≡ memorySize) × (at ≤ lastStair) ⌝ }
+    ensures { λ r. ⌜ now (memory .exit) ≡ sets (now (memory .entry)) at (stairNumbers (stair gap cap)) ⌝ }
+{
+    memory[at + GAP] = gap;
+    memory[at + STAIR_CAP] = cap;
 }
 
 // Stores the head of a planner that holds nothing and stands still.
 pub fn store_fresh(memory: &mut [u64], m: Machine)
     requires { ⌜ length (now memory) ≡ memorySize ⌝ }
-    ensures { λ r. ⌜ now (memory .exit) ≡ sets (now (memory .entry)) 0 (headNumbers (freshRing m [])) ⌝ }
+    ensures { λ r. ⌜ now (memory .exit) ≡ sets (now (memory .entry)) 0 (headNumbers (freshRing m [] [])) ⌝ }
 {
     let l = m.limits;
     store_limits(l, memory);
@@ -228,4 +259,7 @@ pub fn store_fresh(memory: &mut [u64], m: Machine)
     memory[COUNT] = 0;
     memory[COMMITTED] = 0;
     memory[TORQUE] = m.torque;
+    memory[FIRST_STAIR] = 0;
+    memory[STAIRS_BEFORE] = 0;
+    memory[TOTAL] = 0;
 }

@@ -1,11 +1,11 @@
 -- Laws of the backward pass, by the index of a junction, from the definitions `brake` and `startLimit`.
-use mathlib.Core.Path.{_≡_, ap}
+use mathlib.Core.Path.{_≡_}
 use mathlib.Core.List.{List, _∷_, _++_, []}
 use Prim.Native.Nat.{ℕ, zero, suc, _+_, _-_, _≤_, _<_, zero-le}
 use native.Mathlib.Nat.{le-refl}
 use native.Mathlib.Numerals.{add-one}
 use native.Mathlib.Omega.{arith}
-use lib.ListN.{length, drop, drop-of-length-le, length-append, List·getD-append}
+use lib.ListN.{length, drop, drop-of-length-le}
 use lib.Seq.{drop-cons, drop-length}
 use Rattle.profile.specs.Line.{Span, noSpan, capAt, reachAt}
 use Rattle.profile.specs.Passes.{brake, brakeFrom, startLimit, CanBrake, exitOf}
@@ -65,19 +65,3 @@ add-keeps committed (s ∷ line) more h = omega (arith, brake-longer line more)
 -- The line after a block can brake from every exit that the forward pass gives the block.
 pub exit-keeps : (entry : ℕ) (s : Span) (rest : List Span) → CanBrake (exitOf entry s rest) rest
 exit-keeps entry s rest = omega (arith, brake-start rest)
-
--- Spans added last that leave the backward pass at junction j as it was leave it so at every junction before.
-pub brake-same : (line more : List Span) (i j : ℕ) → i ≤ j → j ≤ length line
-    → brake (drop j (line ++ more)) ≡ brake (drop j line) → brake (drop i (line ++ more)) ≡ brake (drop i line)
-brake-same line more i j h p e =
-    down (λ k. brake (drop k (line ++ more)) ≡ brake (drop k line)) j e
-    (λ k r b.
-    let s = List·getD-append line more noSpan k (omega arith) in
-    omega (
-      arith,
-      brake-drop (line ++ more) k (omega (arith, length-append line more)),
-      brake-drop line k (omega arith),
-      ap (λ (t : Span). t .cap) s,
-      ap (λ (t : Span). t .reach) s,
-    ))
-    i h

@@ -1,5 +1,5 @@
 -- The two passes in one list of n + 1 numbers: the backward pass stores from the end to junction 1, then the forward pass
--- stores the plan from junction 0 to the end. One law for each store, from those of kept numbers.
+-- stores its own numbers from junction 0 to the end. One law for each store, from those of kept numbers.
 use mathlib.Core.Path.{_≡_, _∙_, ap}
 use mathlib.Core.List.{List}
 use Prim.Native.Nat.{ℕ, _+_, _<_}
@@ -8,12 +8,12 @@ use native.Mathlib.Omega.{arith}
 use lib.ListN.{length, drop, set}
 use lib.Seq.{getD-set-same, getD-set-other}
 use Rattle.profile.specs.Line.{Span, capAt, reachAt, numberAt}
-use Rattle.profile.specs.Passes.{brake, brakeFrom, exitFrom, CanBrake, Braked, Planned}
-use Rattle.profile.proofs.Kept.{braked-end, braked-store, planned-first, planned-store}
+use Rattle.profile.specs.Passes.{brake, brakeFrom, exitFrom, Braked, Forwarded}
+use Rattle.profile.proofs.Kept.{braked-end, braked-store, forwarded-first, forwarded-store}
 
--- During the forward pass: the plan's numbers up to junction k, the backward pass's after it.
+-- During the forward pass: its numbers up to junction k, the backward pass's after it.
 abbrev pub InPlace : ℕ → List Span → List ℕ → ℕ → Type 0
-InPlace committed line list k = Planned committed line (numberAt list) k × Braked line (numberAt list) (k + 1)
+InPlace committed line list k = Forwarded committed line (numberAt list) k × Braked line (numberAt list) (k + 1)
 
 module _ (line : List Span) (list : List ℕ) (sized : length list ≡ length line + 1) where
   -- A store before the junctions that are right leaves them right.
@@ -31,16 +31,16 @@ module _ (line : List Span) (list : List ℕ) (sized : length list ≡ length li
       braked-store line (numberAt list) k (numberAt (set list k v)) h (getD-set-same list k v 0 (omega arith) ∙ e)
       λ i p q. getD-set-other list k i v 0 (omega arith)
 
-  module _ (committed : ℕ) (can : CanBrake committed line) where
+  module _ (committed : ℕ) where
     -- The forward pass stores the committed squared speed at junction 0,
-    pub store-first : Planned committed line (numberAt (set list 0 committed)) 0
-    store-first = planned-first committed line (numberAt (set list 0 committed)) can (getD-set-same list 0 committed 0 (omega arith))
+    pub store-first : Forwarded committed line (numberAt (set list 0 committed)) 0
+    store-first = forwarded-first committed line (numberAt (set list 0 committed)) (getD-set-same list 0 committed 0 (omega arith))
 
     -- and then the exit of each block, under the backward pass there.
     pub store-exit : (k v : ℕ) → k < length line → v ≡ exitFrom (numberAt list k) (reachAt line k) (brake (drop (k + 1) line))
-        → Planned committed line (numberAt list) k → Planned committed line (numberAt (set list (k + 1) v)) (k + 1)
+        → Forwarded committed line (numberAt list) k → Forwarded committed line (numberAt (set list (k + 1) v)) (k + 1)
     store-exit k v h e =
-        planned-store committed line (numberAt list) can k (numberAt (set list (k + 1) v)) h (getD-set-same list (k + 1) v 0 (omega arith) ∙ e)
+        forwarded-store committed line (numberAt list) k (numberAt (set list (k + 1) v)) h (getD-set-same list (k + 1) v 0 (omega arith) ∙ e)
         λ i p. getD-set-other list (k + 1) i v 0 (omega arith)
 
     -- The same two stores in the list that holds the backward pass.

@@ -4,4 +4,6 @@ pub mod Highest
 pub mod Kept
 pub mod InPlace
 pub mod Within
+pub mod Stairs
+pub mod Stays
 mod Cases

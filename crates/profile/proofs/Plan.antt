@@ -13,13 +13,13 @@ use Rattle.profile.specs.Passes.{startLimit, CanBrake, exitOf, forward, 
 use Rattle.profile.proofs.Brake.{exit-keeps}
 
 -- The forward pass begins with its entry.
-forward-first : (entry : ℕ) (line : List Span) → numberAt (forward entry line) 0 ≡ entry
+pub forward-first : (entry : ℕ) (line : List Span) → numberAt (forward entry line) 0 ≡ entry
 unfolding forward
 forward-first entry [] = refl
 forward-first entry (s ∷ line) = refl
 
 -- It gives one number for each junction.
-forward-length : (entry : ℕ) (line : List Span) → length (forward entry line) ≡ length line + 1
+pub forward-length : (entry : ℕ) (line : List Span) → length (forward entry line) ≡ length line + 1
 unfolding forward
 forward-length entry [] = refl
 forward-length entry (s ∷ line) = omega (arith, forward-length (exitOf entry s line) line)
@@ -31,8 +31,8 @@ forward-next′ entry [] k h = absurd (not-suc-le-zero h)
 forward-next′ entry (s ∷ line) zero h = forward-first (exitOf entry s line) line
 forward-next′ entry (s ∷ line) (suc k) h = forward-next′ (exitOf entry s line) line k (le-of-suc-le-suc h)
 
--- The number at the next junction.
-forward-next : (entry : ℕ) (line : List Span) (k : ℕ) → k < length line
+-- The number at the next junction, whether or not the line can brake.
+pub forward-next : (entry : ℕ) (line : List Span) (k : ℕ) → k < length line
     → numberAt (forward entry line) (k + 1) ≡ exitOf (numberAt (forward entry line) k) (spanAt line k) (drop (k + 1) line)
 forward-next entry line k h = rw (add-one k) (forward-next′ entry line k h)
 

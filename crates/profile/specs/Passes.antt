@@ -55,6 +55,6 @@ planOf committed line = cond (canBrake committed line) (forward committed line) 
 abbrev pub Braked : List Span → (ℕ → ℕ) → ℕ → Type 0
 Braked line kept first = (i : ℕ) → first ≤ i → i ≤ length line → kept i ≡ brake (drop i line)
 
--- Up to junction `last` they are the plan's.
-abbrev pub Planned : ℕ → List Span → (ℕ → ℕ) → ℕ → Type 0
-Planned committed line kept last = (i : ℕ) → i ≤ last → kept i ≡ numberAt (planOf committed line) i
+-- Up to junction `last` they are the forward pass's, whether or not the line can brake.
+abbrev pub Forwarded : ℕ → List Span → (ℕ → ℕ) → ℕ → Type 0
+Forwarded committed line kept last = (i : ℕ) → i ≤ last → kept i ≡ numberAt (forward committed line) i

@@ -4,6 +4,13 @@ ghost use mathlib.Core.Path.{_≡_};
 ghost use Prim.Native.Nat.{_+_, min};
 ghost use Rattle.profile.specs.Passes.{brakeFrom, exitFrom};
 
+// Where the stairs that stay end when a new junction is put behind them: how many stay, and what the new junction allows at
+// the last of them, (µm/s)².
+pub struct Stay {
+    pub count: u64,
+    pub allows: u64,
+}
+
 // The smaller of `limit` and `speed + reach`.
 fn limited(limit: u64, speed: u64, reach: u64) -> u64
     ensures { λ r. ⌜ r ≡ min limit (speed + reach) ⌝ }

@@ -23,12 +23,12 @@ returns c =
     let told = t .struct-told3 .given in
     (λ i.
     stores m (s .args .at) 0
-    ((z .before .before .to-bits .ensures .is ∙ ap (bitsOf 21) (field-back (b .x) (told .0 .1))) i
-    ∷ (z .before .to-bits2 .ensures .is ∙ ap (bitsOf 21) (field-back (b .y) (told .1 .0 .1))) i
-    ∷ (z .to-bits3 .ensures .is ∙ ap (bitsOf 21) (field-back (b .z) (told .1 .1 .0 .1))) i
-    ∷ b .feed ∷ b .radius ∷ c .label-of .ensures i ∷ n .length ∷ n .accel ∷ n .reach ∷ n .cap ∷ s .args .junction ∷ 0 ∷ []))
+    ((z .before .before .to-word .ensures ∙ ap (bitsOf 64) (field-back (b .x) (told .0 .1))) i
+    ∷ (z .before .to-word2 .ensures ∙ ap (bitsOf 64) (field-back (b .y) (told .1 .0 .1))) i
+    ∷ (z .to-word3 .ensures ∙ ap (bitsOf 64) (field-back (b .z) (told .1 .1 .0 .1))) i
+    ∷ b .feed ∷ b .radius ∷ c .label-of .ensures i ∷ n .length ∷ n .accel ∷ n .reach ∷ n .cap ∷ s .args .junction ∷ []))
     ∙ stores-run (numbersFor (placeOf b n (s .args .junction))) m (s .args .at)
 
 pub store-place-spec : {M : Type 1} → statement M
 store-place-spec =
-    tie.close (tie.spec (λ c κs. search needs) (λ c. search needs) (λ c. search needs) (λ c. search needs) (λ c κs. search needs) (λ c. search needs) (λ c. search needs) (λ c. simp length-set (omega arith)) (λ c κs. search needs) (λ c. search needs) (λ c. search needs) (λ c. simp length-set (omega arith)) (λ c. search needs) (λ c. search needs) (λ c. simp length-set (omega arith)) (λ c. search needs) (λ c. search needs) (λ c. simp length-set (omega arith)) (λ c κs. search needs) (λ c. search needs) (λ c. search needs) (λ c. simp length-set (omega arith)) (λ c. search needs) (λ c. search needs) (λ c. simp length-set (omega arith)) (λ c. search needs) (λ c. search needs) (λ c. simp length-set (omega arith)) (λ c. search needs) (λ c. search needs) (λ c. simp length-set (omega arith)) (λ c. search needs) (λ c. search needs) (λ c. simp length-set (omega arith)) (λ c. search needs) (λ c. search needs) (λ c. simp length-set (omega arith)) (λ c. search needs) (λ c. search needs) (λ c. simp length-set (omega arith)) (λ c. simp length-set) returns)
+    tie.close (tie.spec (λ c κs. search needs) (λ c. search needs) (λ c. search needs) (λ c. search needs) (λ c κs. search needs) (λ c. search needs) (λ c. search needs) (λ c. simp length-set (omega arith)) (λ c κs. search needs) (λ c. search needs) (λ c. search needs) (λ c. simp length-set (omega arith)) (λ c. search needs) (λ c. search needs) (λ c. simp length-set (omega arith)) (λ c. search needs) (λ c. search needs) (λ c. simp length-set (omega arith)) (λ c κs. search needs) (λ c. search needs) (λ c. search needs) (λ c. simp length-set (omega arith)) (λ c. search needs) (λ c. search needs) (λ c. simp length-set (omega arith)) (λ c. search needs) (λ c. search needs) (λ c. simp length-set (omega arith)) (λ c. search needs) (λ c. search needs) (λ c. simp length-set (omega arith)) (λ c. search needs) (λ c. search needs) (λ c. simp length-set (omega arith)) (λ c. search needs) (λ c. search needs) (λ c. simp length-set (omega arith)) (λ c. simp length-set) returns)

@@ -12,7 +12,7 @@ use Rattle.line.specs.Ring.{freshRing}
 use Rattle.planner.specs.View.{viewOf, headNumbers}
 use Rattle.planner.proofs.View.{view-fresh}
 use Rattle.planner.proofs.Outcomes.{fresh-refused, fresh-made}
-use Rattle.planner.proofs.Passes.{still-sized}
+use Rattle.planner.proofs.Blocks.{still-sized}
 use Rattle.planner.proofs.ring.fresh_in.Statement.{statement}
 use Rattle.planner.proofs.ring.fresh_in.Tie as tie
 
@@ -37,9 +37,9 @@ returns-2 c =
     let made = machineOf (a .l) (a .steps .now) in
     let n = machineRefusal (a .l) (a .steps .now) in
     let r = given-is made n n (sym (ap machineMeans (e .m .given .1)) ∙ k .machine-answer .ensures) in
-    let stored = f .store-fresh .ensures ∙ ap (λ (x : Machine). sets memory 0 (headNumbers (freshRing x []))) (r .1) in
+    let stored = f .store-fresh .ensures ∙ ap (λ (x : Machine). sets memory 0 (headNumbers (freshRing x [] []))) (r .1) in
     fresh-made memory (s .pre) (a .l) (a .steps .now) (f .store-fresh .last .0)
-    (still-sized memory (f .store-fresh .last .0) 0 (headNumbers (freshRing made [])) (s .pre) stored)
+    (still-sized memory (f .store-fresh .last .0) 0 (headNumbers (freshRing made [] [])) (s .pre) stored)
     (sym (r .0))
     (ap viewOf stored ∙ view-fresh memory made (s .pre))
 

@@ -4,7 +4,7 @@ use borrow.Author.Tests.{eq-eqb}
 use native.Mathlib.Nat.{mod-lt}
 use lib.Dec.{lit<}
 use Rattle.planner.specs.View.{placeFrom, viewOf}
-use Rattle.planner.proofs.Passes.{junction-is, moves-in}
+use Rattle.planner.proofs.Blocks.{junction-is, moves-in}
 use Rattle.planner.proofs.ring.new_junction.Statement.{statement}
 use Rattle.planner.proofs.ring.new_junction.Tie as tie
 
@@ -22,7 +22,7 @@ junction-from-requires c κs =
       jump-below = s .pre .1;
       first-length = rw (c .cut-numbers-in .ensures) (mod-lt (held .length) (lit< tt));
       second-length = s .pre .2;
-      first-moves = rw (b .block-in .ensures) (moves-in held);
+      first-moves = rw (b .cut-block-in .ensures) (moves-in held);
       second-moves = s .pre .3;
     }
 
@@ -34,8 +34,8 @@ returns-2 c =
     let p = b .before in
     let e = p .before .before in
     let a = e .before .before .before .args in
-    junction-is (a .memory .now) (p .place .result) (a .jump) (a .b) (a .n) (c .junction-from .result) (b .block-in .result) (h .cut-numbers-in .result)
-    (p .place .ensures .0) (e .if1 .left) (b .block-in .ensures) (h .cut-numbers-in .ensures) (c .junction-from .ensures)
+    junction-is (a .memory .now) (p .place .result) (a .jump) (a .b) (a .n) (c .junction-from .result) (b .cut-block-in .result) (h .cut-numbers-in .result)
+    (p .place .ensures .0) (e .if1 .left) (b .cut-block-in .ensures) (h .cut-numbers-in .ensures) (c .junction-from .ensures)
 
 pub new-junction-spec : {M : Type 1} → statement M
 new-junction-spec =

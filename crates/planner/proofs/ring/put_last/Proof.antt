@@ -1,4 +1,4 @@
--- `planner::ring::put_last`: the place, the count and the walk back together, from `put-is`.
+-- `planner::ring::put_last`: the place, the count and the stairs together, from `put-is`.
 use mathlib.Core.Path.{_≡_, _∙_}
 use borrow.Author.Needs.{needs}
 use native.Mathlib.Omega.{arith}
@@ -9,7 +9,7 @@ use Rattle.machine.specs.Lists.{limitsFrom}
 use Rattle.machine.specs.Numbers.{numbersOf}
 use Rattle.line.specs.Ring.{placeOf}
 use Rattle.planner.specs.View.{memorySize, numbersFor, viewOf}
-use Rattle.planner.proofs.Passes.{limits-below, still-sized, put-is}
+use Rattle.planner.proofs.Blocks.{limits-below, still-sized, put-is}
 use Rattle.planner.proofs.ring.put_last.Statement.{statement}
 use Rattle.planner.proofs.ring.put_last.Tie as tie
 
@@ -54,8 +54,8 @@ add-memory : tie.Need-add-memory
 unfolding viewOf
 add-memory c = record { fits = omega (arith, start (c .before .before) .pre .2) }
 
-walk-back-requires : tie.Need-walk-back-requires
-walk-back-requires c κs = simp length-set (stored (c .before .before .before))
+climb-requires : tie.Need-climb-requires
+climb-requires c κs = simp length-set (stored (c .before .before .before))
 
 returns : tie.Need-returns
 unfolding viewOf
@@ -64,13 +64,13 @@ returns c =
     let p = w .before .before .before .before in
     let s = start p in
     record {
-      sized = w .walk-back .ensures .sized;
+      sized = w .climb .ensures .sized;
       view =
-          w .walk-back .ensures .view
+          w .climb .ensures .view
           ∙ put-is (s .args .memory .now) (p .store-place .last .0) (machined p .machine-in .result) (s .args .b) (numbered p .numbers .result) (joined p .new-junction .result) (placed p .place .result)
           (s .pre .0) (machined p .machine-in .ensures) (numbered p .numbers .ensures) (joined p .new-junction .ensures) (placed p .place .ensures .0) (p .store-place .ensures);
     }
 
 pub put-last-spec : {M : Type 1} → statement M
 put-last-spec =
-    tie.close (tie.spec (λ c κs. search needs) numbers-requires new-junction-requires (λ c. search needs) (λ c. search needs) (λ c κs. search needs) (λ c κs. search needs) add-memory (λ c. search needs) walk-back-requires (λ c. search needs) returns)
+    tie.close (tie.spec (λ c κs. search needs) numbers-requires new-junction-requires (λ c. search needs) (λ c. search needs) (λ c κs. search needs) (λ c κs. search needs) add-memory (λ c. search needs) climb-requires (λ c. search needs) returns)

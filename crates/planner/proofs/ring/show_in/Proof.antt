@@ -1,8 +1,9 @@
--- `planner::ring::show_in`: one law for each way out.
+-- `planner::ring::show_in`: one law for each way out, from those of the outcomes.
 use mathlib.Core.Path.{sym, ap, _∙_}
 use Prim.Native.Nat.{ℕ, _+_}
 use borrow.Author.Needs.{needs}
-use Rattle.line.specs.Ring.{speedsFrom}
+use Rattle.profile.specs.Passes.{forward}
+use Rattle.line.specs.Ring.{spansIn}
 use Rattle.planner.specs.View.{viewOf}
 use Rattle.planner.proofs.Outcomes.{shown-all, shown-none}
 use Rattle.planner.proofs.ring.show_in.Statement.{statement}
@@ -16,7 +17,7 @@ returns c =
     let m = viewOf (s .args .memory .now) in
     let told = i .before .told-in .ensures .number-is in
     shown-all (s .args .memory .now) (s .args .list .now) (h .show .last .1 .0) (i .if1 .taken ∙ ap (λ (n : ℕ). n + 1) told)
-    (h .show .ensures ∙ ap (λ (n : ℕ). speedsFrom m n 0 (m .committed)) told)
+    (h .show .ensures ∙ ap (λ (n : ℕ). forward (m .committed) (spansIn m n 0)) told)
 
 returns-2 : tie.Need-returns-2
 returns-2 c =

@@ -1,13 +1,14 @@
--- `tapeplan::passes::forward_pass` meets its contract. The invariant: up to junction k the list holds the plan, behind it the backward pass. The measure is what is left.
+-- `tapeplan::passes::forward_pass` meets its contract. The invariant: up to junction k the list holds the forward pass, behind it the backward pass. From rest that is the plan. The measure is what is left.
 use borrow.Author.Needs.{needs}
-use mathlib.Core.Path.{_≡_}
+use mathlib.Core.Path.{_≡_, _∙_, sym}
 use native.Mathlib.Omega.{arith}
 use mathlib.Core.List.{List}
 use Prim.Native.Nat.{ℕ, _+_, _-_, _<_, _≤_, zero-le}
 use lib.ListN.{length, set, length-set}
 use Rattle.profile.specs.Line.{numberAt}
-use Rattle.profile.specs.Passes.{exitFrom}
-use Rattle.profile.proofs.Kept.{planned-all}
+use Rattle.profile.specs.Passes.{exitFrom, planOf}
+use Rattle.profile.proofs.Plan.{plan-forward}
+use Rattle.profile.proofs.Kept.{forwarded-all}
 use Rattle.profile.proofs.InPlace.{InPlace, in-place-first, in-place-exit}
 use Rattle.tapeplan.proofs.LentLaws.{line-length, line-reach}
 use Rattle.tapeplan.specs.Lent.{lineOf}
@@ -19,8 +20,14 @@ turn : (caps reaches list : List ℕ) (k v : ℕ) → length caps ≡ length rea
     → InPlace 0 (lineOf caps reaches) list k → InPlace 0 (lineOf caps reaches) (set list (k + 1) v) (k + 1)
 turn caps reaches list k v same sized h e b =
     let n = line-length caps reaches same in
-    in-place-exit (lineOf caps reaches) list (omega arith) 0 zero-le k v (omega arith)
+    in-place-exit (lineOf caps reaches) list (omega arith) 0 k v (omega arith)
     (omega (arith, line-reach caps reaches k same h)) b
+
+planned : (caps reaches list : List ℕ) (k : ℕ) → length caps ≡ length reaches → length list ≡ length caps + 1 → length caps ≤ k
+    → InPlace 0 (lineOf caps reaches) list k → list ≡ planOf 0 (lineOf caps reaches)
+planned caps reaches list k same sized h b =
+    let n = line-length caps reaches same in
+    forwarded-all 0 (lineOf caps reaches) list (omega arith) (λ i p. b .0 i (omega arith)) ∙ sym (plan-forward 0 (lineOf caps reaches) zero-le)
 
 abbrev Inv-loop : tie.InvT-loop
 Inv-loop caps reaches list₀ k₀ list k = (k ≤ length reaches) × (length list ≡ length reaches + 1) × InPlace 0 (lineOf caps reaches) list k
@@ -32,7 +39,7 @@ loop-holds : tie.Need-loop-holds Inv-loop μ-loop
 loop-holds c = (
   search needs,
   rw length-set (omega arith),
-  in-place-first (lineOf (c .before .before .before .args .caps .now) (c .before .before .before .args .reaches .now)) (c .before .before .before .args .list .now) (c .before .before .before .pre .2 .sized) 0 zero-le (c .before .before .before .pre .2 .braked),
+  in-place-first (lineOf (c .before .before .before .args .caps .now) (c .before .before .before .args .reaches .now)) (c .before .before .before .args .list .now) (c .before .before .before .pre .2 .sized) 0 (c .before .before .before .pre .2 .braked),
 )
 
 loop-again : tie.Need-loop-again Inv-loop μ-loop
@@ -48,9 +55,9 @@ loop-again c = (
 
 returns : tie.Need-returns Inv-loop μ-loop
 returns c =
-    let n : length (lineOf (c .before .before .before .before .before .args .caps .now) (c .before .before .before .before .before .args .reaches .now)) ≡ length (c .before .before .before .before .before .args .caps .now) = line-length _ _ (c .before .before .before .before .before .pre .0) in
-    planned-all 0 (lineOf (c .before .before .before .before .before .args .caps .now) (c .before .before .before .before .before .args .reaches .now)) (c .before .loop .list) (omega arith)
-    (λ i p. c .before .loop .inv .2 .0 i (omega arith))
+    planned (c .before .before .before .before .before .args .caps .now) (c .before .before .before .before .before .args .reaches .now)
+    (c .before .loop .list)
+    (c .before .loop .k) (search needs) (search needs) (search needs) (c .before .loop .inv .2)
 
 pub forward-pass-spec : {M : Type 1} → statement M
 forward-pass-spec =
