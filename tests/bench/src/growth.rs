@@ -2,8 +2,8 @@
 //! directions hide.
 
 use crate::paths::Path;
-use crate::work::{Ready, Work};
-use crate::{count, line, PATHS, SIDES};
+use crate::work::Work;
+use crate::{Measured, PATHS};
 
 /// The planner's work with so many blocks held.
 pub const HELD: [(&str, Work); 5] = [
@@ -17,8 +17,8 @@ pub const HELD: [(&str, Work); 5] = [
 /// A path that no planner should be measured on.
 pub const RANDOM: (&str, Path) = ("random", Path::Random);
 
-/// Prints the instructions of one take and one add of mould and straight for each
-/// number held, and of random directions with 64. False where the two sides found
+/// Prints instructions and time of one take and one add of mould and straight for
+/// each number held, and of random directions with 64. False where the sides found
 /// other numbers.
 pub fn report() -> bool {
     let paths = PATHS[..2].iter();
@@ -27,15 +27,8 @@ pub fn report() -> bool {
     rows.fold(true, |agree, (path, held)| row(path, held) && agree)
 }
 
-/// Prints the row of a path and a number held. False where the two sides found
-/// other numbers.
-fn row((path, over): (&str, Path), (held, work): (&str, Work)) -> bool {
-    let name = format!("{held}, {path}");
-    let counts = SIDES.map(|(side, by)| count([held, path, side], work, by));
-    line(&name, "instructions", counts);
-    let sums = SIDES.map(|(_, by)| Ready::new(work, by, over, work.counted()).run());
-    if sums[0] != sums[1] {
-        eprintln!("{name}: the sums of what was found differ: {sums:?}");
-    }
-    sums[0] == sums[1]
+/// Prints the row of a path and a number held. False where the sides found other
+/// numbers.
+fn row(path: (&str, Path), held: (&str, Work)) -> bool {
+    Measured::of(held, path).print(&format!("{}, {}", held.0, path.0))
 }

@@ -8,10 +8,10 @@ use std::time::Instant;
 
 use compare::programs::{ngctape, planlist, planorders, run, start_with, tape_of, OwnFile};
 use reference::generate::machine_m;
-use reference::incremental::Planner;
 use reference::listing;
 use reference::machine::Block;
 use reference::order_listing::planorders_by;
+use reference::stairs::Planner;
 use reference::tape::{pack_limits, Tape, MOST_BLOCKS};
 use reference::text;
 
@@ -108,14 +108,14 @@ fn rows(name: &str, unit: &str, ([full, empty], records): ([&Cost; 2], usize)) {
     let share = |full: u64, empty: u64| (full as f64 - empty as f64) / records as f64;
     let counts = full.instructions.zip(empty.instructions);
     let count = counts.map(|(full, empty)| share(full, empty));
-    line(name, "instructions", [count, None]);
-    line("", "ns", [Some(share(full.time, empty.time)), None]);
+    line(name, "instructions", &[count]);
+    line("", "ns", &[Some(share(full.time, empty.time))]);
     whole("", unit, full);
 }
 
 /// Prints the time of one process.
 fn whole(name: &str, unit: &str, cost: &Cost) {
-    line(name, unit, [Some(cost.time as f64 / 1e3), None]);
+    line(name, unit, &[Some(cost.time as f64 / 1e3)]);
 }
 
 /// The bytes of a tape for machine M.

@@ -1,7 +1,9 @@
 //! Prints time and instructions of the proved planner, report, root, reading of a
 //! text and orders beside those of the reference, how the planner's grow with the
 //! blocks held, the most that single calls take on the paths and in a search, and
-//! what planlist, ngctape and planorders take. Fails where the two differ.
+//! what planlist, ngctape and planorders take. The planner stands beside the
+//! reference of its own design and beside that with the walk back. Fails where they
+//! differ.
 
 mod callgrind;
 mod growth;
@@ -51,6 +53,8 @@ const STEPS: [(&str, Path); 4] = [
     ("0.1 to 1 m", Path::Steps(100_000, 1_000_000)),
 ];
 const SIDES: [(&str, Side); 2] = [("proved", Side::Proved), ("reference", Side::Reference)];
+/// Those of the planner's work.
+const PLANNERS: [(&str, Side); 3] = [SIDES[0], SIDES[1], ("walk", Side::Walk)];
 
 /// Without arguments the whole table; `search GENERATIONS SEED` that part of it, as
 /// long as wanted. For callgrind `count WORK PATH SIDE` runs that once, and `cases`
@@ -61,7 +65,8 @@ fn main() -> ExitCode {
         [] => table(),
         ["count", work, path, side] => {
             let works = [&WORKS[..], &TEXTS, &[ORDER, REPORT], &growth::HELD].concat();
-            let (work, side) = (named(&works, work), named(&SIDES, side));
+            let work = named(&works, work);
+            let side = named(sides(work), side);
             let paths = [paths(work), &[growth::RANDOM]].concat();
             let mut ready = Ready::new(work, side, named(&paths, path), work.counted());
             println!("{}", ready.run());
@@ -82,7 +87,8 @@ fn main() -> ExitCode {
 fn usage() -> ExitCode {
     eprintln!(
         "bench | bench search GENERATIONS SEED | bench cases\n\
-         bench count planner|tape|root|text|order|report PATH proved|reference"
+         bench count tape|root|text|order|report PATH proved|reference\n\
+         bench count planner PATH proved|reference|walk"
     );
     ExitCode::FAILURE
 }
@@ -105,6 +111,14 @@ fn paths(work: Work) -> &'static [(&'static str, Path)] {
     }
 }
 
+/// The sides that a work is measured by.
+fn sides(work: Work) -> &'static [(&'static str, Side)] {
+    match work {
+        Work::Planner(_) => &PLANNERS,
+        _ => &SIDES,
+    }
+}
+
 /// The choice of a name.
 fn named<T: Copy>(choices: &[(&str, T)], name: &str) -> T {
     let found = choices.iter().find(|choice| choice.0 == name);
@@ -113,11 +127,11 @@ fn named<T: Copy>(choices: &[(&str, T)], name: &str) -> T {
         .1
 }
 
-/// Prints the table; fails where the two sides found other numbers.
+/// Prints the table; fails where the sides found other numbers.
 fn table() -> ExitCode {
     println!(
-        "{:<18} {:<20} {:>10} {:>10} {:>7}",
-        "", "per block", "proved", "reference", "ratio"
+        "{:<18} {:<20} {:>10} {:>10} {:>7} {:>10}",
+        "", "per block", "proved", "reference", "ratio", "walk"
     );
     let agree = [
         rows(&WORKS),
@@ -137,43 +151,58 @@ fn table() -> ExitCode {
 /// What a block of a work takes on a path by each side: instructions and ns;
 /// and the sum of what was found.
 struct Measured {
-    counts: [Option<f64>; 2],
-    times: [f64; 2],
-    sums: [u64; 2],
+    counts: Vec<Option<f64>>,
+    times: Vec<f64>,
+    sums: Vec<u64>,
 }
 
 impl Measured {
     fn of((work, doing): (&str, Work), (path, over): (&str, Path)) -> Measured {
-        let counts = SIDES.map(|(side, by)| count([work, path, side], doing, by));
-        let found = SIDES.map(|(_, side)| time(doing, side, over));
+        let sides = sides(doing);
+        let count = |(side, by): &(&str, Side)| count([work, path, side], doing, *by);
+        let counts = sides.iter().map(count).collect();
+        let found = sides.iter().map(|(_, side)| time(doing, *side, over));
+        let (times, sums) = found.unzip();
         Measured {
             counts,
-            times: found.map(|(time, _)| time),
-            sums: found.map(|(_, sum)| sum),
+            times,
+            sums,
         }
     }
 
-    /// Prints both; false where the two sides found other numbers.
+    /// Prints both; false where the sides found other numbers.
     fn print(&self, name: &str) -> bool {
-        line(name, "instructions", self.counts);
-        line("", "ns", self.times.map(Some));
-        let [proved, reference] = self.sums;
-        if proved != reference {
-            eprintln!("{name}: the sums of what was found differ: {proved} and {reference}");
-        }
-        proved == reference
+        line(name, "instructions", &self.counts);
+        line("", "ns", &some(&self.times));
+        alike(name, &self.sums)
     }
 
     /// Prints by how much it is more than another work on the same blocks.
     fn print_beyond(&self, name: &str, less: &Measured) {
-        let more = |side: usize| Some(self.counts[side]? - less.counts[side]?);
-        line(name, "instructions", [more(0), more(1)]);
-        let more = |side: usize| Some(self.times[side] - less.times[side]);
-        line("", "ns", [more(0), more(1)]);
+        let both = self.counts.iter().zip(&less.counts);
+        let counts = both.map(|(more, less)| Some((*more)? - (*less)?));
+        line(name, "instructions", &counts.collect::<Vec<_>>());
+        let both = self.times.iter().zip(&less.times);
+        let times = both.map(|(more, less)| Some(more - less));
+        line("", "ns", &times.collect::<Vec<_>>());
     }
 }
 
-/// Prints the rows of some works; false where the two sides found other numbers.
+/// Numbers that there are.
+fn some(numbers: &[f64]) -> Vec<Option<f64>> {
+    numbers.iter().copied().map(Some).collect()
+}
+
+/// False where the sums of what the sides found differ, which it says.
+fn alike(name: &str, sums: &[u64]) -> bool {
+    let alike = sums.iter().all(|sum| *sum == sums[0]);
+    if !alike {
+        eprintln!("{name}: the sums of what was found differ: {sums:?}");
+    }
+    alike
+}
+
+/// Prints the rows of some works; false where the sides found other numbers.
 fn rows(works: &[(&str, Work)]) -> bool {
     let mut agree = true;
     for work in works {
@@ -182,8 +211,8 @@ fn rows(works: &[(&str, Work)]) -> bool {
             agree &= measured.print(&format!("{}, {}", work.0, path.0));
             if matches!(work.1, Work::Text) {
                 // each block is a line
-                let lines = measured.times.map(|ns| Some(1e9 / ns));
-                line("", "lines a second", lines);
+                let lines = measured.times.iter().map(|ns| Some(1e9 / ns));
+                line("", "lines a second", &lines.collect::<Vec<_>>());
             }
         }
     }
@@ -197,10 +226,11 @@ fn order_rows() -> bool {
     let [add, order] = [ADD, ORDER].map(|work| Measured::of(work, PATHS[0]));
     let agree = [add.print("add, mould"), order.print("order, mould")];
     order.print_beyond("order beyond add", &add);
-    if order.sums != add.sums {
+    let exits = order.sums[0] == add.sums[0];
+    if !exits {
         eprintln!("order, mould: the exits are not those of the adds");
     }
-    agree == [true; 2] && order.sums == add.sums
+    agree == [true; 2] && exits
 }
 
 /// Prints what each block of the longest tape of each path takes in a report, and
@@ -216,14 +246,28 @@ fn report_rows() -> bool {
     agree
 }
 
-/// One line: both sides' numbers and proved / reference; a dash where there is
-/// no number.
-fn line(name: &str, unit: &str, [proved, reference]: [Option<f64>; 2]) {
-    let text = |number: Option<f64>| number.map_or("-".to_string(), |n| format!("{n:.1}"));
-    let ratio = proved.zip(reference).map(|(p, r)| p / r);
-    let ratio = ratio.map_or("-".to_string(), |r| format!("{r:.2}"));
-    let (proved, reference) = (text(proved), text(reference));
-    println!("{name:<18} {unit:<20} {proved:>10} {reference:>10} {ratio:>7}");
+/// One line: the sides' numbers, with proved / reference behind these two; a dash
+/// where there is no number.
+fn line(name: &str, unit: &str, numbers: &[Option<f64>]) {
+    let reference = numbers.get(1).copied().flatten();
+    let ratio = numbers[0].zip(reference).map(|(p, r)| p / r);
+    print_line([name, unit], numbers, ratio);
+}
+
+/// One line of numbers that are no costs.
+fn line_without_ratio(name: &str, unit: &str, numbers: &[Option<f64>]) {
+    print_line([name, unit], numbers, None);
+}
+
+fn print_line([name, unit]: [&str; 2], numbers: &[Option<f64>], ratio: Option<f64>) {
+    let dash = || "-".to_string();
+    let text = |number: &Option<f64>| number.map_or_else(dash, |n| format!("{n:.1}"));
+    let ratio = ratio.map_or_else(dash, |r| format!("{r:.2}"));
+    let proved = text(&numbers[0]);
+    let reference = numbers.get(1).map_or_else(dash, text);
+    let walk = numbers.get(2).map_or_else(String::new, text);
+    let line = format!("{name:<18} {unit:<20} {proved:>10} {reference:>10} {ratio:>7} {walk:>10}");
+    println!("{}", line.trim_end());
 }
 
 /// Shortest time per block, ns, and the sum of what was found.

@@ -40,8 +40,8 @@ pub fn events_of(path: Path) -> (Vec<u8>, usize) {
 mod tests {
     use super::*;
     use reference::host::Host;
-    use reference::incremental::Planner;
     use reference::line::LookAhead;
+    use reference::stairs::Planner;
 
     /// The blocks that the orders add are the path's, but for their marks,
     /// which are the orders' places from 1.

@@ -1,5 +1,5 @@
-//! The most that one single add and one single take of the library take on each
-//! path, with 64 blocks held.
+//! The most that one single add and one single take take on each path, with 64
+//! blocks held: of the library, and of the reference by both of its planners.
 
 use std::env;
 use std::process::Stdio;
@@ -7,8 +7,8 @@ use std::process::Stdio;
 use reference::line::PLACES;
 
 use crate::callgrind::single_calls;
-use crate::work::Work;
-use crate::{line, PATHS};
+use crate::work::{Side, Work, ONE_ADD, ONE_TAKE};
+use crate::{line, line_without_ratio, PATHS, PLANNERS};
 
 /// What the calls of one function took over a path.
 #[derive(Debug, PartialEq)]
@@ -31,32 +31,53 @@ impl Calls {
     }
 }
 
+/// A call: its name, its function in the library, that of the reference, and how
+/// many calls of it fill the planner before the first take.
+const CALLS: [(&str, &str, &str, usize); 2] = [
+    ("add", "fullerecru_add", ONE_ADD, PLACES),
+    ("take", "fullerecru_take", ONE_TAKE, 0),
+];
+
 /// Prints mean and most of the instructions of single calls, and which call took
 /// the most. False where other calls were counted than the path has.
 pub fn report() -> bool {
     let mut agree = true;
     for (path, _) in &PATHS[..2] {
-        // the planner is filled by adds before the first take
-        for (call, function, before) in [
-            ("add", "fullerecru_add", PLACES),
-            ("take", "fullerecru_take", 0),
-        ] {
-            let own = env::current_exe().expect("a program");
-            let words = ["count", "planner", path, "proved"];
-            let counts = single_calls(&own, &words, Stdio::null(), [function; 2]);
-            let counts = counts.map(|all| all[before..].to_vec());
-            let calls = counts.as_deref().and_then(Calls::of);
-            let name = format!("one {call}, {path}");
-            line(&name, "mean", [calls.as_ref().map(|c| c.mean), None]);
-            let most = calls.as_ref().map(|c| c.most as f64);
-            line("", "most", [most, None]);
-            let place = calls.as_ref().map(|c| c.place as f64);
-            line("", "at call", [place, None]);
+        for (call, library, reference, filling) in CALLS {
+            let counts = PLANNERS.map(|(side, by)| {
+                let function = match by {
+                    Side::Proved => library,
+                    Side::Reference | Side::Walk => reference,
+                };
+                let all = counted([path, side], function)?;
+                Some(all[filling..].to_vec())
+            });
+            print(&format!("one {call}, {path}"), &counts);
             let expected = Work::Planner(PLACES).counted();
-            agree &= counts.is_none_or(|counts| counts.len() == expected);
+            agree &= counts.iter().flatten().all(|all| all.len() == expected);
         }
     }
     agree
+}
+
+/// Instructions of each call of a function in the planner's work on a path by a
+/// side.
+fn counted([path, side]: [&str; 2], function: &str) -> Option<Vec<u64>> {
+    let own = env::current_exe().expect("a program");
+    let words = ["count", "planner", path, side];
+    single_calls(&own, &words, Stdio::null(), [function; 2])
+}
+
+/// Prints what the calls of each side took.
+fn print(name: &str, counts: &[Option<Vec<u64>>]) {
+    let calls = counts.iter().map(|all| Calls::of(all.as_deref()?));
+    let calls: Vec<Option<Calls>> = calls.collect();
+    let numbers = |number: fn(&Calls) -> f64| -> Vec<Option<f64>> {
+        calls.iter().map(|side| side.as_ref().map(number)).collect()
+    };
+    line(name, "mean", &numbers(|calls| calls.mean));
+    line("", "most", &numbers(|calls| calls.most as f64));
+    line_without_ratio("", "at call", &numbers(|calls| calls.place as f64));
 }
 
 #[cfg(test)]

@@ -6,11 +6,12 @@ use compare::library::*;
 use compare::words::limit_words;
 use reference::generate::machine_m;
 use reference::host::Host;
-use reference::incremental::Planner;
+use reference::incremental;
 use reference::line::{LookAhead, PLACES};
 use reference::machine::{Block, Machine};
 use reference::orders::Event;
 use reference::quick;
+use reference::stairs::Planner;
 use reference::tape::{Tape, MOST_BLOCKS, RECORD_BYTES};
 use reference::text::text_records;
 
@@ -22,7 +23,12 @@ use crate::texts::text_of;
 #[derive(Clone, Copy, Debug)]
 pub enum Side {
     Proved,
+    /// The independent implementation; its planner keeps the junctions that can
+    /// limit.
     Reference,
+    /// Its planner that keeps a brake at each place and walks back over them; of
+    /// the planner's work alone.
+    Walk,
 }
 
 /// The list of loaded torque steps: the built-in ones serve.
@@ -58,19 +64,17 @@ impl Work {
 
     /// Name of the function that does it.
     pub fn function(self, side: Side) -> &'static str {
-        match (self, side) {
-            (Work::Planner(_), Side::Proved) => "feed_proved",
-            (Work::Planner(_), Side::Reference) => "feed_reference",
-            (Work::Tape, Side::Proved) => "plan_proved",
-            (Work::Tape, Side::Reference) => "plan_reference",
-            (Work::Report, Side::Proved) => "report_proved",
-            (Work::Report, Side::Reference) => "report_reference",
-            (Work::Root, Side::Proved) => "roots_proved",
-            (Work::Root, Side::Reference) => "roots_reference",
-            (Work::Text, Side::Proved) => "read_proved",
-            (Work::Text, Side::Reference) => "read_reference",
-            (Work::Order, Side::Proved) => "order_proved",
-            (Work::Order, Side::Reference) => "order_reference",
+        let [proved, reference] = match self {
+            Work::Planner(_) => ["feed_proved", "feed_reference"],
+            Work::Tape => ["plan_proved", "plan_reference"],
+            Work::Report => ["report_proved", "report_reference"],
+            Work::Root => ["roots_proved", "roots_reference"],
+            Work::Text => ["read_proved", "read_reference"],
+            Work::Order => ["order_proved", "order_reference"],
+        };
+        match side {
+            Side::Proved => proved,
+            Side::Reference | Side::Walk => reference,
         }
     }
 }
@@ -79,6 +83,7 @@ impl Work {
 pub enum Ready {
     FeedProved(Vec<u64>, Vec<Block>),
     FeedReference(Box<Planner>, Vec<Block>),
+    FeedWalk(Box<incremental::Planner>, Vec<Block>),
     PlanProved(Vec<u8>, usize),
     PlanReference(Machine, Vec<Block>, usize),
     ReportProved(Vec<u8>, usize),
@@ -102,6 +107,7 @@ impl Ready {
                 match side {
                     Side::Proved => Ready::FeedProved(filled_memory(&blocks), rest),
                     Side::Reference => Ready::FeedReference(filled_planner(&blocks), rest),
+                    Side::Walk => Ready::FeedWalk(filled_planner(&blocks), rest),
                 }
             }
             (Work::Tape, side) => Ready::tape(side, path, count.div_ceil(MOST_BLOCKS)),
@@ -110,7 +116,7 @@ impl Ready {
                 let sums = path.blocks(count).iter().map(squares).collect();
                 match side {
                     Side::Proved => Ready::RootsProved(sums),
-                    Side::Reference => Ready::RootsReference(sums),
+                    Side::Reference | Side::Walk => Ready::RootsReference(sums),
                 }
             }
             (Work::Text, side) => Ready::text(side, path, count.div_ceil(MOST_BLOCKS)),
@@ -123,7 +129,7 @@ impl Ready {
         let (machine, blocks) = longest(path);
         match side {
             Side::Proved => Ready::PlanProved(bytes_of(&machine, blocks), runs),
-            Side::Reference => Ready::PlanReference(machine, blocks, runs),
+            Side::Reference | Side::Walk => Ready::PlanReference(machine, blocks, runs),
         }
     }
 
@@ -132,7 +138,7 @@ impl Ready {
         let (machine, blocks) = longest(path);
         match side {
             Side::Proved => Ready::ReportProved(bytes_of(&machine, blocks), runs),
-            Side::Reference => Ready::ReportReference(machine, blocks, runs),
+            Side::Reference | Side::Walk => Ready::ReportReference(machine, blocks, runs),
         }
     }
 
@@ -149,7 +155,7 @@ impl Ready {
                 assert_eq!(refused, 0, "orders that pass");
                 Ready::OrderProved(memory, host, rest.iter().map(Feed::of).collect())
             }
-            Side::Reference => {
+            Side::Reference | Side::Walk => {
                 let (mut planner, mut host) = (filled_planner(&[]), Host::default());
                 let passing = first
                     .iter()
@@ -165,14 +171,16 @@ impl Ready {
         let text = text_of(path);
         match side {
             Side::Proved => Ready::ReadProved(text, runs),
-            Side::Reference => Ready::ReadReference(text, runs),
+            Side::Reference | Side::Walk => Ready::ReadReference(text, runs),
         }
     }
 
     /// How many blocks a run works on.
     pub fn blocks(&self) -> usize {
         match self {
-            Ready::FeedProved(_, blocks) | Ready::FeedReference(_, blocks) => blocks.len(),
+            Ready::FeedProved(_, blocks)
+            | Ready::FeedReference(_, blocks)
+            | Ready::FeedWalk(_, blocks) => blocks.len(),
             Ready::PlanProved(_, runs) | Ready::PlanReference(_, _, runs) => runs * MOST_BLOCKS,
             Ready::ReportProved(_, runs) | Ready::ReportReference(_, _, runs) => runs * MOST_BLOCKS,
             Ready::RootsProved(sums) | Ready::RootsReference(sums) => sums.len(),
@@ -189,7 +197,8 @@ impl Ready {
     pub fn run(&mut self) -> u64 {
         match self {
             Ready::FeedProved(memory, blocks) => feed_proved(memory, blocks),
-            Ready::FeedReference(planner, blocks) => feed_reference(planner, blocks),
+            Ready::FeedReference(planner, blocks) => feed_reference(planner.as_mut(), blocks),
+            Ready::FeedWalk(planner, blocks) => feed_reference(planner.as_mut(), blocks),
             Ready::PlanProved(tape, runs) => plan_proved(tape, *runs),
             Ready::PlanReference(machine, blocks, runs) => plan_reference(machine, blocks, *runs),
             Ready::ReportProved(tape, runs) => report_proved(tape, *runs),
@@ -236,13 +245,12 @@ fn filled_memory(blocks: &[Block]) -> Vec<u64> {
     memory
 }
 
-/// The reference's planner that holds the blocks.
-fn filled_planner(blocks: &[Block]) -> Box<Planner> {
-    let mut planner =
-        Box::new(Planner::fresh(&machine_m(), NONE_LOADED).expect("machine M passes"));
-    for block in blocks {
-        planner.add(block).expect("a block that passes");
-    }
+/// A planner of the reference that holds the blocks.
+fn filled_planner<P: LookAhead>(blocks: &[Block]) -> Box<P> {
+    let fresh = P::fresh(&machine_m(), NONE_LOADED);
+    let mut planner = Box::new(fresh.expect("machine M passes"));
+    let passing = blocks.iter().all(|block| one_add(planner.as_mut(), block));
+    assert!(passing, "blocks that pass");
     planner
 }
 
@@ -269,13 +277,32 @@ fn feed_proved(memory: &mut [u64], blocks: &[Block]) -> u64 {
 }
 
 #[inline(never)]
-fn feed_reference(planner: &mut Planner, blocks: &[Block]) -> u64 {
+fn feed_reference<P: LookAhead>(planner: &mut P, blocks: &[Block]) -> u64 {
     let mut sum = 0;
     for block in blocks {
-        sum += black_box(planner.take()).map_or(0, |given| given.exit);
-        let _ = black_box(planner.add(black_box(block)));
+        sum += one_take(planner);
+        one_add(planner, block);
     }
     sum
+}
+
+/// Names, as callgrind tells them, of the functions that make single calls of the
+/// reference.
+pub const ONE_ADD: &str = concat!(module_path!(), "::one_add");
+pub const ONE_TAKE: &str = concat!(module_path!(), "::one_take");
+
+/// One add by the reference, a function of its own as one of the library is; false
+/// where it is refused.
+#[inline(never)]
+fn one_add<P: LookAhead>(planner: &mut P, block: &Block) -> bool {
+    black_box(planner.add(black_box(block))).is_ok()
+}
+
+/// One take by the reference: the exit squared speed, (µm/s)², 0 where it is
+/// refused.
+#[inline(never)]
+fn one_take<P: LookAhead>(planner: &mut P) -> u64 {
+    black_box(planner.take()).map_or(0, |given| given.exit)
 }
 
 /// From the tape's bytes to the plan.

@@ -2,7 +2,7 @@
 //! libarith_c.a.
 
 /// Numbers of a planner's memory.
-pub const NUMBERS: usize = 781;
+pub const NUMBERS: usize = 848;
 /// Numbers of a trace's row, and of the list for its plan.
 pub const ROW: usize = 15;
 pub const PLAN: usize = 65;
@@ -15,7 +15,7 @@ pub const FIGURES: usize = 7;
 /// Numbers of a row of a tape's list.
 pub const LISTED: usize = 13;
 /// The version of the header, 1,000,000 × major + 1,000 × minor + patch.
-pub const VERSION: u64 = 10_000;
+pub const VERSION: u64 = 11_000;
 
 extern "C" {
     pub fn fullerecru_version() -> u64;

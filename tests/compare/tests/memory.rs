@@ -1,13 +1,14 @@
 //! Every number of a planner's memory, and every answer, as the promise of the
 //! calls says for that memory: on noise, on memories of planners with numbers
-//! changed, the torque among them, and on those that calls alone have made.
+//! changed, the torque among them, or with stairs at the ends of what a call
+//! compares, and on those that calls alone have made.
 
 use std::collections::{BTreeMap, BTreeSet};
 
 use compare::library::NUMBERS;
-use compare::memories::{any_memory, left_by_calls};
+use compare::memories::{any_memory, at_the_ends_of_a_drop, at_the_ends_of_a_take, left_by_calls};
 use compare::proved::Planner;
-use compare::ring::{Ring, FIRST, HEAD, TORQUE};
+use compare::ring::{Ring, COUNT, FIRST, FIRST_STAIR, HEAD, TORQUE};
 use compare::words::{any_block, any_limits, some_steps};
 use compare::{report, same, seeds, Trying};
 use reference::generate::*;
@@ -207,6 +208,61 @@ fn a_planners_memory_is_left_as_promised() {
     report(count, "calls of planners, with all their memory");
 }
 
+/// A memory with room for one block more, and with one held.
+fn with_room(rng: &mut Rng) -> [u64; NUMBERS] {
+    let mut memory = left_by_calls(rng);
+    memory[COUNT] = memory[COUNT].clamp(1, 63);
+    memory
+}
+
+/// Adds that drop none of the stairs, some, or all 63 at once: caps at what is seen
+/// from them and beside it, sums that pass a word, and takes behind each.
+#[test]
+fn stairs_at_the_ends_of_a_drop_are_answered_as_promised() {
+    let (mut dropped, mut count) = (BTreeMap::new(), 0);
+    for seed in seeds(6_000) {
+        let _trying = Trying::seed(seed);
+        let mut rng = Rng::new(seed);
+        let (mut memory, block) = (with_room(&mut rng), block(&mut rng));
+        let cap = Ring::of_memory(&memory).new_junction(&block);
+        at_the_ends_of_a_drop(&mut rng, &mut memory, cap);
+        let mut both = Both::on(seed, &memory);
+        let before = both.ring.stairs_before() % 64;
+        both.run(&Writes::Add(block), rng.below(70) as usize);
+        let after = both.ring.stairs_before();
+        *dropped.entry(before + 1 - after).or_insert(0) += 1;
+        for _ in 0..rng.below(4) {
+            both.run(&Writes::Take, rng.below(70) as usize);
+            count += 1;
+        }
+        count += 1;
+    }
+    let often = |number: u64| dropped.get(&number).is_some_and(|times| *times >= 50);
+    assert!([0, 1, 2, 63].into_iter().all(often), "{dropped:?}");
+    assert!(dropped.len() > 40, "{dropped:?}");
+    report(count, "calls that meet stairs at the ends of a drop");
+}
+
+/// Takes whose first block ends at the first stair, before it and behind it, and
+/// totals beside what the stair says.
+#[test]
+fn stairs_at_the_ends_of_a_take_are_answered_as_promised() {
+    let (mut moved, mut count) = (0, 0);
+    for seed in seeds(6_000) {
+        let _trying = Trying::seed(seed);
+        let mut rng = Rng::new(seed);
+        let mut memory = with_room(&mut rng);
+        at_the_ends_of_a_take(&mut rng, &mut memory);
+        let mut both = Both::on(seed, &memory);
+        both.run(&Writes::Take, rng.below(70) as usize);
+        moved += usize::from(both.ring.memory()[FIRST_STAIR] != memory[FIRST_STAIR]);
+        both.run(&Writes::Add(block(&mut rng)), rng.below(70) as usize);
+        count += 2;
+    }
+    assert!((1_000..5_000).contains(&moved), "{moved}");
+    report(count, "calls that meet a stair at the ends of a take");
+}
+
 /// The torque that the scope document's percentages and each list of loaded ones
 /// make in memory: a byte for each, the first most significant.
 fn torque_of(steps: &[u8]) -> u64 {
@@ -215,9 +271,9 @@ fn torque_of(steps: &[u8]) -> u64 {
 }
 
 /// A fresh planner on used memory: the numbers of the head are new, and the
-/// places keep what they held.
+/// places and the stairs keep what they held.
 #[test]
-fn a_fresh_planner_leaves_the_places_as_they_were() {
+fn a_fresh_planner_leaves_places_and_stairs_as_they_were() {
     for seed in seeds(2_000) {
         let _trying = Trying::seed(seed);
         let mut rng = Rng::new(seed);
@@ -228,6 +284,7 @@ fn a_fresh_planner_leaves_the_places_as_they_were() {
         let after = both.planner.memory();
         assert_eq!(after[HEAD..], before[HEAD..], "seed {seed}");
         assert_eq!(after[FIRST..TORQUE], [0; 3], "seed {seed}");
+        assert_eq!(after[FIRST_STAIR..HEAD], [0; 3], "seed {seed}");
         assert_eq!(after[TORQUE], torque_of(&steps), "seed {seed}");
     }
     report(2_000, "fresh planners on used memory");
@@ -258,7 +315,7 @@ fn a_torque_that_no_steps_make_is_answered_as_promised() {
             let (way, cause) = (rng.pick(&WAYS), rng.pick(&CAUSES));
             let (limits, block) = block_of_speed(&mut rng, speed, way, cause);
             let made = Planner::fresh(&limits, &steps(&mut rng)).expect("both pass");
-            let mut memory: [u64; NUMBERS] = made.memory().try_into().expect("781 numbers");
+            let mut memory: [u64; NUMBERS] = made.memory().try_into().expect("848 numbers");
             memory[TORQUE] = unmade_torque(&mut rng);
             percents.insert(memory[TORQUE].to_be_bytes()[(speed as usize - 1) / 125_000]);
             let mut both = Both::on(seed, &memory);

@@ -234,7 +234,7 @@ fn every_list_is_answered_as_the_host_and_the_line_say() {
         let mut rng = Rng::new(seed);
         let (limits, steps) = (limits(&mut rng), steps(&mut rng));
         let planner = Planner::fresh(&limits, &steps).expect("limits and steps that pass");
-        let memory = planner.memory().try_into().expect("781 numbers");
+        let memory = planner.memory().try_into().expect("848 numbers");
         let host = proved::Host::fresh();
         let mut both = Both::on(seed, memory, &[0; HOST]);
         same(
@@ -299,7 +299,7 @@ fn every_host_and_memory_is_answered_as_promised() {
 fn single_orders_of_any_doubles_are_answered_as_promised() {
     let (mut met, mut count) = (BTreeMap::new(), 0);
     let planner = Planner::fresh(&machine_m(), &[]).expect("machine M passes");
-    let memory = planner.memory().try_into().expect("781 numbers");
+    let memory = planner.memory().try_into().expect("848 numbers");
     for seed in seeds(60_000) {
         let _trying = Trying::seed(seed);
         let mut rng = Rng::new(seed);
@@ -378,7 +378,7 @@ fn bits_above_the_low_ones_play_no_part() {
     let above = |number: u64| number | 0xdead_beef << 32;
     let numbers = [1_000, 0xffff_fc18, 0, 41].map(above);
     let planner = Planner::fresh(&machine_m(), &[]).expect("machine M passes");
-    let memory = planner.memory().try_into().expect("781 numbers");
+    let memory = planner.memory().try_into().expect("848 numbers");
     let mut both = Both::on(0, memory, &numbers);
     let still = Event::rapid([1.0, -1.0, 0.0]);
     assert_eq!(number(&both.run(&Call::of(&still))), 2);
@@ -405,7 +405,7 @@ fn bits_above_the_low_ones_play_no_part() {
 #[test]
 fn a_count_that_leaves_no_mark_gives_6() {
     let planner = Planner::fresh(&machine_m(), &[]).expect("machine M passes");
-    let memory = planner.memory().try_into().expect("781 numbers");
+    let memory = planner.memory().try_into().expect("848 numbers");
     let order = Call::of(&Event::rapid([1.0, 0.0, 0.0]));
     let most = u64::from(u32::MAX);
     let counts = [

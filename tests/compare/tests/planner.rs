@@ -6,9 +6,9 @@ use compare::library::NUMBERS;
 use compare::proved::Planner;
 use compare::words::{any_block, any_limits, some_steps};
 use compare::{hex, report, same, seeds, Trying};
+use reference::anew;
 use reference::generate::*;
-use reference::incremental;
-use reference::line::{Line, LookAhead};
+use reference::line::{Line, LookAhead, PLACES};
 use reference::machine::Limits;
 use reference::refusal::Refusal;
 use reference::rng::Rng;
@@ -75,21 +75,54 @@ fn every_call_is_answered_as_the_line_of_blocks_says() {
     report(count, "calls against the line of blocks");
 }
 
-/// The ring of places goes round hundreds of times, under built-in steps at one
-/// seed and loaded ones at the next.
+/// Runs a long list of calls through the proved planner and the one that plans its
+/// line anew: every number of every answer, the number told after each call, and
+/// the plan after one call in sixteen. Gives the numbers on the display that were
+/// met, and how often 64 blocks were held.
+fn compare_anew(
+    seed: u64,
+    (limits, steps): (&Limits, &[u8]),
+    calls: &[Call],
+) -> (BTreeSet<u64>, usize) {
+    let (mut met, mut full) = (BTreeSet::new(), 0);
+    let mut proved = Planner::fresh(limits, steps).expect("limits and steps that pass");
+    let mut other = anew::Planner::fresh(limits, steps).expect("limits and steps that pass");
+    for (place, call) in calls.iter().enumerate() {
+        let input = || format!("{limits:?} {steps:?}, call {place} of the list: {call:?}");
+        let expected = answer(&mut other, call);
+        met.insert(expected.map_or_else(|refusal| refusal.number(), |_| 0));
+        same(seed, input, answer(&mut proved, call), expected);
+        let told = other.told();
+        same(seed, input, proved.told(), told);
+        full += usize::from(told == PLACES);
+        if place % 16 == 0 || place + 1 == calls.len() {
+            same(seed, input, plan(&proved, told + 1), plan(&other, told + 1));
+        }
+    }
+    (met, full)
+}
+
+/// A million calls on one planner, under built-in steps at one seed and loaded ones
+/// at the next: places and stairs go round thousands of times, full for long,
+/// filled and emptied, and by chance, on mould, on straight steps and on paths of
+/// every kind, with refused calls among them.
 #[test]
-fn long_runs_are_answered_as_the_other_planner_answers() {
+fn a_million_calls_are_answered_as_by_planning_anew() {
     let mut count = 0;
-    for seed in seeds(8) {
+    for seed in seeds(4) {
         let _trying = Trying::seed(seed);
         let mut rng = Rng::new(seed);
-        let (limits, steps) = (limits(&mut rng), loaded_steps(&mut rng));
-        let steps = if seed % 2 == 0 { &[][..] } else { &steps };
-        let calls = calls(&mut rng, 60_000);
+        let (limits, steps) = match seed % 2 {
+            0 => (machine_m(), Vec::new()),
+            _ => (limits(&mut rng), loaded_steps(&mut rng)),
+        };
+        let calls = traffic(&mut rng, 1_000_000, work(Rng::new(!seed)));
+        let (met, full) = compare_anew(seed, (&limits, &steps), &calls);
+        assert_eq!(met, BTreeSet::from([0, 2, 3, 4, 5, 6, 7, 8]));
+        assert!(full > 100_000, "{full} times 64 held");
         count += calls.len();
-        compare_with::<incremental::Planner>(seed, (&limits, steps), &calls);
     }
-    report(count, "calls of long runs");
+    report(count, "calls against planning anew");
 }
 
 /// Both bench paths, with each number of blocks held from 1 to 64.
@@ -189,7 +222,7 @@ fn adds_of_any_words_are_answered_alike() {
 }
 
 /// Two planners run in turn, one of them moved to other memory each time: a
-/// planner is its 781 numbers and nothing else.
+/// planner is its 848 numbers and nothing else.
 #[test]
 fn planners_do_not_disturb_one_another() {
     let mut count = 0;
@@ -212,7 +245,7 @@ fn planners_do_not_disturb_one_another() {
                 same(seed, || hex(&pack_call(call)), found, expected);
                 count += 1;
             }
-            let memory: [u64; NUMBERS] = planners[1].memory().try_into().expect("781 numbers");
+            let memory: [u64; NUMBERS] = planners[1].memory().try_into().expect("848 numbers");
             planners[1] = Planner::of_memory(&memory);
         }
     }

@@ -79,7 +79,7 @@ struct Fresh {
 impl Fresh {
     fn new() -> Fresh {
         let planner = Planner::fresh(&machine_m(), &[]).expect("machine M passes");
-        let memory = planner.memory().try_into().expect("781 numbers");
+        let memory = planner.memory().try_into().expect("848 numbers");
         Fresh { memory }
     }
 

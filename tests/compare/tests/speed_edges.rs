@@ -72,7 +72,7 @@ fn the_memory_holds_the_numbers_of_edge_speeds() {
             let (limits, block) = block_of_speed(&mut rng, speed, way, cause);
             let steps = steps(&mut rng);
             let mut planner = Planner::fresh(&limits, &steps).expect("limits and steps that pass");
-            let mut ring = Ring::of_memory(planner.memory().try_into().expect("781 numbers"));
+            let mut ring = Ring::of_memory(planner.memory().try_into().expect("848 numbers"));
             let input = || format!("{limits:?} {steps:?} {block:?}");
             same(seed, input, planner.add(&block), ring.add(&block));
             same(seed, input, planner.memory(), &ring.memory()[..]);

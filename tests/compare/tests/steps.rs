@@ -261,7 +261,7 @@ fn used(rng: &mut Rng) -> (Planner, Line) {
     (planner, line)
 }
 
-/// A planner whose fresh start is refused keeps its 781 numbers and goes on as
+/// A planner whose fresh start is refused keeps its 848 numbers and goes on as
 /// the line of blocks does that knows of no such call. The lists that are lent
 /// with a tape and with a trace, and a report, hold what they held.
 #[test]

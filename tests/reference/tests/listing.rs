@@ -9,6 +9,7 @@ use reference::listing::{planlist, planreplay, planreplay_by, HEADER};
 use reference::machine::{Block, Machine};
 use reference::plan::from_rest;
 use reference::rng::Rng;
+use reference::stairs;
 use reference::tape::{read_tape, Tape};
 use reference::trace::{pack_call, pack_trace, read_call, Call};
 
@@ -116,10 +117,10 @@ fn calls_as_words() {
     assert_eq!(read_call(&bytes), Call::Take);
 }
 
-/// The incremental planner writes the same text on generated traces and torque
+/// Each planner writes the same text on generated traces and torque
 /// steps, which meet each refusal of a trace and of its calls.
 #[test]
-fn replay_by_either_planner() {
+fn replay_by_each_planner() {
     let mut met = BTreeSet::new();
     for seed in 0..400 {
         let mut rng = Rng::new(seed);
@@ -129,7 +130,9 @@ fn replay_by_either_planner() {
             _ => steps(&mut rng),
         };
         let text = planreplay(&bytes, &loaded);
-        assert_eq!(planreplay_by::<Planner>(&bytes, &loaded), text, "{seed}");
+        let kept = planreplay_by::<Planner>(&bytes, &loaded);
+        let limiting = planreplay_by::<stairs::Planner>(&bytes, &loaded);
+        assert_eq!([&kept, &limiting], [&text; 2], "{seed}");
         let refused = text.lines().filter(|line| line.starts_with("refused"));
         met.extend(refused.map(str::to_string));
     }

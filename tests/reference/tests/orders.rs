@@ -9,6 +9,7 @@ use reference::order_cases::worked;
 use reference::order_listing::{planorders, planorders_by};
 use reference::orders::{pack_orders, Event, EVENT_BYTES};
 use reference::rng::Rng;
+use reference::stairs;
 
 /// What the worked events give.
 const WORKED: &str = "\
@@ -156,10 +157,10 @@ fn unused_fields_play_no_part() {
     }
 }
 
-/// The incremental planner writes the same text on generated orders and torque
+/// Each planner writes the same text on generated orders and torque
 /// steps, which meet each refusal of their heads and of an event but 6.
 #[test]
-fn orders_by_either_planner() {
+fn orders_by_each_planner() {
     let mut met = BTreeSet::new();
     for seed in 0..400 {
         let mut rng = Rng::new(seed);
@@ -169,7 +170,9 @@ fn orders_by_either_planner() {
             _ => steps(&mut rng),
         };
         let text = planorders(&bytes, &loaded);
-        assert_eq!(planorders_by::<Planner>(&bytes, &loaded), text, "{seed}");
+        let kept = planorders_by::<Planner>(&bytes, &loaded);
+        let limiting = planorders_by::<stairs::Planner>(&bytes, &loaded);
+        assert_eq!([&kept, &limiting], [&text; 2], "{seed}");
         let refused = text.lines().filter(|line| line.starts_with("refused"));
         met.extend(refused.map(str::to_string));
     }

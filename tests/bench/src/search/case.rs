@@ -27,15 +27,15 @@ pub struct Case {
 }
 
 impl Case {
-    /// A random one: any limits, steps and path, or one block over and over, on
-    /// which an add's walk back goes farthest.
+    /// A random one: any limits, steps and path, or one block over and over, of
+    /// whose junctions each is kept, to the end or up to the last add, which may
+    /// drop them all.
     pub fn drawn(rng: &mut Rng) -> Case {
         let count = rng.spread(1, MOST as u64) as usize;
         let (limits, mut blocks) = limits_and_path(rng, count);
-        if rng.once_in(3) {
-            let first = blocks[0];
-            blocks.fill(first);
-        }
+        let level = rng.pick(&[0, 0, 0, count - 1, count - 1, count]);
+        let first = blocks[0];
+        blocks[..level].fill(first);
         blocks.iter_mut().for_each(|block| block.mark = 0);
         Case {
             limits,

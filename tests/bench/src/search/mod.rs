@@ -176,8 +176,8 @@ impl Search {
     fn print(&self, name: &str) {
         let found = self.climbs.iter().min_by_key(|case| rank(case));
         let most = found.map(|(count, _)| *count as f64);
-        line(name, "instructions", [most, None]);
-        line("", "cases tried", [Some(self.tried as f64), None]);
+        line(name, "instructions", &[most]);
+        line("", "cases tried", &[Some(self.tried as f64)]);
         let Some((_, case)) = found else { return };
         for (function, own) in parts(case, self.goal) {
             println!("    {own:>5} in {function}");

@@ -7,9 +7,9 @@ use std::io::Read;
 use compare::library::*;
 use compare::proved;
 use compare::words::limit_words;
-use reference::incremental;
 use reference::line::LookAhead;
 use reference::machine::Given;
+use reference::stairs;
 use reference::tape::{read_limits, LIMITS_BYTES};
 use reference::trace::{pack_trace, read_call, Call, CALL_BYTES};
 
@@ -86,7 +86,7 @@ fn bench_last_call(memory: &mut [u64; NUMBERS], call: &Call) -> u64 {
 /// True if both sides give out the same blocks and are left with the same plan.
 pub fn alike(case: &Case, goal: Goal) -> bool {
     let found = ran::<proved::Planner>(case, goal);
-    let alike = found == ran::<incremental::Planner>(case, goal);
+    let alike = found == ran::<stairs::Planner>(case, goal);
     if !alike {
         eprintln!("the two planners differ on\n{}", case.words());
     }

@@ -1,5 +1,6 @@
 //! Blocks: single ones, paths of several kinds, and faulty ones.
 
+use super::raster::Raster;
 use crate::machine::{range, Block};
 use crate::rng::Rng;
 
@@ -195,6 +196,14 @@ pub fn short_steps(seed: u64, count: usize) -> Vec<Block> {
     (0..count)
         .map(|k| marked_block([step(), step(), step()], 50_000, k))
         .collect()
+}
+
+/// Rows over a mould in steps of 1 to 36 µm along X, feed 50,000 µm/s.
+pub fn mould_steps(seed: u64, count: usize) -> Vec<Block> {
+    let mut rng = Rng::new(seed);
+    let moves = Raster::begin(|most| rng.below(most)).take(count);
+    let marked = |(place, moves)| marked_block(moves, 50_000, place);
+    moves.enumerate().map(marked).collect()
 }
 
 /// Steps of 1 to 5 µm straight on along X, feed 500,000 µm/s, so that every
