@@ -76,12 +76,12 @@ extern "C" {
 /* The version of this header, and as one number, 1,000,000 * major + 1,000 * minor + patch. That of the
  * library is told by fullerecru_version: they are made for each other where the two numbers are the
  * same. */
-#define FULLERECRU_VERSION_TEXT "0.10.0"
-#define FULLERECRU_VERSION 10000
+#define FULLERECRU_VERSION_TEXT "0.11.0"
+#define FULLERECRU_VERSION 11000
 
 enum {
     /* Numbers of 64 bits in a planner's memory. */
-    FULLERECRU_NUMBERS = 781,
+    FULLERECRU_NUMBERS = 848,
     /* Most blocks that a planner holds. */
     FULLERECRU_PLACES = 64,
     /* Numbers of a machine's limits. */
@@ -273,8 +273,9 @@ uint64_t fullerecru_version(void);
 #define FULLERECRU_BUILT_IN (const uint8_t *)"", (size_t)0
 #endif
 
-/* The planner: 64 places in memory of the caller, who keeps its 781 numbers from call to call.
- * These functions alone write them. */
+/* The planner: 64 places in memory of the caller, who keeps its 848 numbers (6,784 bytes) from call to
+ * call. These functions alone write them, and only those of one version: what the numbers mean may
+ * change with the minor version. */
 
 /* Makes a fresh planner: no block held, committed speed 0. The memory need not be initialised.
  *
@@ -320,7 +321,8 @@ uint64_t fullerecru_take(uint64_t memory[FULLERECRU_NUMBERS], int64_t moves[FULL
 uint64_t fullerecru_told(const uint64_t memory[FULLERECRU_NUMBERS]);
 
 /* Shows the plan: the squared speed, (µm/s)², at each junction of the blocks held, from the
- * committed one at the first to 0 at the last. count must be the number told + 1.
+ * committed one at the first to 0 at the last. count must be the number told + 1. It is worked out
+ * at each call, by two passes over the blocks held; a take has no need of it.
  *
  * Refuses by 11. Accepted, it writes the count numbers of list; the planner stays as it is. */
 uint64_t fullerecru_shown(const uint64_t memory[FULLERECRU_NUMBERS], uint64_t *list, size_t count);

@@ -3,7 +3,7 @@
 //!
 //!     rustc --edition 2021 -L target/staticlib -l static=fullerecru examples/rust/pair.rs -o target/pair
 
-const NUMBERS: usize = 781;
+const NUMBERS: usize = 848;
 
 extern "C" {
     fn fullerecru_fresh(

@@ -1,11 +1,11 @@
 """Sizes of the header include/fullerecru.h, by its names without FULLERECRU_."""
 
 # Version of the header that this module is written for: 1,000,000 * major + 1,000 * minor + patch.
-VERSION = 10_000
-VERSION_TEXT = "0.10.0"
+VERSION = 11_000
+VERSION_TEXT = "0.11.0"
 
 # Numbers of 64 bits in the lists that are lent to the library.
-NUMBERS = 781  # a planner's memory
+NUMBERS = 848  # a planner's memory
 LIMITS = 9
 MOVES = 3
 GIVEN = 11  # a block given out, beside its moves

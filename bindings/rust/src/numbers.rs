@@ -2,12 +2,12 @@
 //! A test compares each with the header.
 
 /// Version of the library that this binding is made for: 1,000,000 × major + 1,000 × minor + patch.
-pub const VERSION: u64 = 10_000;
+pub const VERSION: u64 = 11_000;
 /// The same as text; it is the package's version too.
 pub const VERSION_TEXT: &str = env!("CARGO_PKG_VERSION");
 
 /// Numbers of 64 bits in a planner's memory.
-pub(crate) const NUMBERS: usize = 781;
+pub(crate) const NUMBERS: usize = 848;
 /// Most blocks that a planner holds.
 pub const PLACES: usize = 64;
 /// Numbers of a machine's limits.

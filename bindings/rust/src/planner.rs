@@ -10,7 +10,7 @@ use crate::sys;
 
 /// A planner that holds up to [`PLACES`](crate::PLACES) blocks.
 ///
-/// It has its memory inside, 781 numbers (6,248 bytes), and no call but [`Planner::shown`] allocates.
+/// It has its memory inside, 848 numbers (6,784 bytes), and no call but [`Planner::shown`] allocates.
 /// Put it in a [`Box`] where it is moved about. A call needs under 1 kB of stack; [`Planner::fresh`] has
 /// the new planner there too, in a build without optimisation several times.
 ///
@@ -116,7 +116,8 @@ impl Planner {
     }
 
     /// The plan: the squared speed, (µm/s)², at each junction of the blocks held, from the committed
-    /// one at the first to 0 at the last. It has one number more than there are blocks.
+    /// one at the first to 0 at the last. It has one number more than there are blocks, and is worked out
+    /// at each call.
     pub fn shown(&self) -> Vec<u64> {
         let mut list = vec![0; self.told() + 1];
         let number = sys::shown(&self.memory, &mut list);
