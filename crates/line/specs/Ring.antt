@@ -83,12 +83,16 @@ stairSlot r j = (r .firstStair + j) % mostHeld
 abbrev pub stairAt : Ring → ℕ → Stair
 stairAt r j = getD (r .stairs) (stairSlot r j) noStair
 
-abbrev pub blockIn : Place → Block
-blockIn p = labelledBlock (signedOf 64 (p .x)) (signedOf 64 (p .y)) (signedOf 64 (p .z)) (p .feed) (p .radius) (p .label)
+-- the block of a place, by the low bits of its moves
+abbrev pub blockBy : (width : ℕ) → Place → Block
+blockBy width p = labelledBlock (signedOf width (p .x)) (signedOf width (p .y)) (signedOf width (p .z)) (p .feed) (p .radius) (p .label)
 
--- the same with moves of 21 bits, as a corner is worked out from them
+-- by whole words; and by 21 bits, as a corner is worked out from it
+abbrev pub blockIn : Place → Block
+blockIn = blockBy 64
+
 abbrev pub cutBlock : Place → Block
-cutBlock p = labelledBlock (signedOf 21 (p .x)) (signedOf 21 (p .y)) (signedOf 21 (p .z)) (p .feed) (p .radius) (p .label)
+cutBlock = blockBy 21
 
 abbrev pub numbersIn : Place → Numbers
 numbersIn p = record { length = p .length; accel = p .accel; reach = p .reach; cap = p .cap }

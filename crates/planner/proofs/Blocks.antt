@@ -23,7 +23,7 @@ use Rattle.machine.specs.declared.Machine.{Machine}
 use Rattle.machine.specs.declared.Numbers.{Numbers}
 use Rattle.line.specs.Answers.{givenBetween}
 use Rattle.line.specs.Blocks.{mostHeld}
-use Rattle.line.specs.Ring.{cutLimits, cutMachine, cutNumbers, cutBlock, placeOf, putLast, blockIn, numbersIn, junctionAfter, startIn, exitIn, givenIn, lowered, moved, climbed, takenFrom, Place, placeAt, slot}
+use Rattle.line.specs.Ring.{cutLimits, cutMachine, cutNumbers, blockBy, cutBlock, placeOf, putLast, blockIn, numbersIn, junctionAfter, startIn, exitIn, givenIn, lowered, moved, climbed, takenFrom, Place, placeAt, slot}
 use Rattle.line.specs.declared.Given.{Given}
 use Rattle.planner.specs.Calls.{Memory}
 use Rattle.planner.specs.View.{numbersFor, memorySize, firstIndex, countIndex, committedIndex, baseOf, placeFrom, viewOf}
@@ -63,15 +63,10 @@ put-is m m₁ of b n junction at sized le ne je here stored =
     let counted = view-count m₁ (count + 1) (still-sized m m₁ at (numbersFor (placeOf b n junction)) sized stored) ∙ (λ i. moved (put i) (put i .first) (count + 1) (put i .committed)) in
     λ i. climbed count (counted i) (joined i) (numbers i .reach)
 
--- A place's block, from its moves as words,
-pub block-is : (p : Place) (b : Block) (x y z : ℤ) → b ≡ labelledBlock x y z (p .feed) (p .radius) (p .label)
-    → x ≡ signedOf 64 (p .x) → y ≡ signedOf 64 (p .y) → z ≡ signedOf 64 (p .z) → b ≡ blockIn p
-block-is p b x y z e ex ey ez = e ∙ (λ i. labelledBlock (ex i) (ey i) (ez i) (p .feed) (p .radius) (p .label))
-
--- and cut to 21 bits.
-pub cut-block-is : (p : Place) (b : Block) (x y z : ℤ) → b ≡ labelledBlock x y z (p .feed) (p .radius) (p .label)
-    → x ≡ signedOf 21 (p .x) → y ≡ signedOf 21 (p .y) → z ≡ signedOf 21 (p .z) → b ≡ cutBlock p
-cut-block-is p b x y z e ex ey ez = e ∙ (λ i. labelledBlock (ex i) (ey i) (ez i) (p .feed) (p .radius) (p .label))
+-- A place's block, from its moves.
+pub block-is : (width : ℕ) (p : Place) (b : Block) (x y z : ℤ) → b ≡ labelledBlock x y z (p .feed) (p .radius) (p .label)
+    → x ≡ signedOf width (p .x) → y ≡ signedOf width (p .y) → z ≡ signedOf width (p .z) → b ≡ blockBy width p
+block-is width p b x y z e ex ey ez = e ∙ (λ i. labelledBlock (ex i) (ey i) (ez i) (p .feed) (p .radius) (p .label))
 
 -- A move of 21 bits is below 2^21, either way.
 natAbs-mag : (z : ℤ) → natAbs z ≤ mag z + 1

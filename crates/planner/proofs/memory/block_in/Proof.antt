@@ -14,7 +14,7 @@ returns c =
     let y = z .before .before in
     let x = y .before .before in
     let s = x .before .before .before in
-    block-is (placeFrom (s .args .memory .now) (s .args .at)) _ _ _ _ (c .labelled-block .ensures)
+    block-is 64 (placeFrom (s .args .memory .now) (s .args .at)) _ _ _ _ (c .labelled-block .ensures)
     (field-back (x .signed-word .result) (x .signed-word .ok) ∙ x .signed-word .ensures)
     (field-back (y .signed-word2 .result) (y .signed-word2 .ok) ∙ y .signed-word2 .ensures)
     (field-back (z .signed-word3 .result) (z .signed-word3 .ok) ∙ z .signed-word3 .ensures)

@@ -3,7 +3,7 @@ use mathlib.Core.Path.{_∙_}
 use borrow.Author.Needs.{needs}
 use Rattle.arith.proofs.SignedLaws.{field-back}
 use Rattle.planner.specs.View.{placeFrom}
-use Rattle.planner.proofs.Blocks.{cut-block-is}
+use Rattle.planner.proofs.Blocks.{block-is}
 use Rattle.planner.proofs.memory.cut_block_in.Statement.{statement}
 use Rattle.planner.proofs.memory.cut_block_in.Tie as tie
 
@@ -14,7 +14,7 @@ returns c =
     let y = z .before .before in
     let x = y .before .before in
     let s = x .before .before .before in
-    cut-block-is (placeFrom (s .args .memory .now) (s .args .at)) _ _ _ _ (c .labelled-block .ensures)
+    block-is 21 (placeFrom (s .args .memory .now) (s .args .at)) _ _ _ _ (c .labelled-block .ensures)
     (field-back (x .to-signed .result) (x .to-signed .ok) ∙ x .to-signed .ensures)
     (field-back (y .to-signed2 .result) (y .to-signed2 .ok) ∙ y .to-signed2 .ensures)
     (field-back (z .to-signed3 .result) (z .to-signed3 .ok) ∙ z .to-signed3 .ensures)
