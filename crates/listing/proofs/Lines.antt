@@ -14,7 +14,8 @@ use lib.ListN.{length, drop, length-append}
 use lib.Seq.{getD-drop, drop-drop, drop-length}
 use Rattle.profile.specs.Line.{numberAt}
 use Rattle.machine.specs.declared.Block.{Block}
-use Rattle.line.specs.Answers.{givenBetween, givenOf}
+use Rattle.machine.specs.declared.Ramp.{Ramp}
+use Rattle.line.specs.Answers.{givenOf}
 use Rattle.line.specs.declared.Given.{Given}
 use Rattle.text.specs.Text.{decimal, row}
 use Rattle.text.specs.Store.{put, Stored}
@@ -28,17 +29,17 @@ use Rattle.tapeplan.specs.Planned.{tapeMachine, tapePlan}
 use Rattle.tapeplan.specs.Sheet.{measuredAt, measuredOf}
 use Rattle.tapeplan.specs.declared.Measured.{Measured}
 use Rattle.listing.specs.Listing.{linesOf, rowOf}
-use Rattle.listing.specs.Parts.{lineOf, marked, partBlocks, rowLines}
+use Rattle.listing.specs.Parts.{lineNumbers, lineOf, partBlocks, rampBetween, rowLines}
 use Rattle.listing.proofs.Plans.{row-between}
 
 -- the line of a row, from what is read of it
-pub row-put : (sheet plan : List ℕ) (k : ℕ) {row : Measured} {g : Given} {text after : List ℕ} {at end : ℕ} → row ≡ measuredAt sheet k
-    → g ≡ givenBetween (marked (row .mark)) (row .numbers) (numberAt plan k) (numberAt plan (k + 1))
-    → WroteLine (givenText g) text at end after → WroteLine (lineOf sheet plan k) text at end after
-row-put sheet plan k {text} {after} {at} {end} e f r =
-    subst (λ (t : List ℕ). WroteLine t text at end after)
-    (ap givenText (f ∙ (λ i. givenBetween (marked (e i .mark)) (e i .numbers) (numberAt plan k) (numberAt plan (k + 1)))))
-    r
+pub row-put : (sheet plan : List ℕ) (k : ℕ) {r : Measured} {ramp : Ramp} {text after : List ℕ} {at end : ℕ} → r ≡ measuredAt sheet k
+    → ramp ≡ rampBetween (r .numbers) (numberAt plan k) (numberAt plan (k + 1))
+    → WroteLine (row (lineNumbers r (numberAt plan k) (numberAt plan (k + 1)) ramp)) text at end after → WroteLine (lineOf sheet plan k) text at end after
+row-put sheet plan k {text} {after} {at} {end} e f w =
+    let entry = numberAt plan k in
+    let exit = numberAt plan (k + 1) in
+    subst (λ (t : List ℕ). WroteLine t text at end after) (λ i. row (lineNumbers (e i) entry exit ((f ∙ (λ j. rampBetween (e j .numbers) entry exit)) i))) w
 
 module _ (blocks : ℕ) (sheet plan : List ℕ) where
   -- the line of block k, and none behind the last
@@ -148,7 +149,7 @@ module _ (s loaded : List ℕ) {blocks : ℕ} (sheet plan : List ℕ) (passed : 
   row-line k h =
       line-here blocks sheet plan k (omega (arith, count))
       ∙ (λ i.
-      givenText (givenBetween (marked (measured k h i .mark)) (measured k h i .numbers) (same k (omega arith) i) (same (k + 1) (omega arith) i)))
+      row (lineNumbers (measured k h i) (same k (omega arith) i) (same (k + 1) (omega arith) i) (rampBetween (measured k h i .numbers) (same k (omega arith) i) (same (k + 1) (omega arith) i))))
       ∙ row-between s loaded passed k h
 
   -- there is a byte where there is a block

@@ -45,15 +45,15 @@ module _ (blocks : ℕ) (sheet plan : List ℕ) (p : ℕ) where
       rw size (stored-next r q zero-le)
 
 -- a part, by the answer of planning the tape
-pub part-answered : (listing : Listing) {a : TapePlanned} {text after : List ℕ} {end : ℕ} (sheet : List ℕ) (p : ℕ) → listing .answer ≡ a
-    → Stored text 0 (answerPart a listing sheet p) end after → Stored text 0 (partOf listing sheet p) end after
-part-answered listing {text} {after} {end} sheet p is r = subst (λ (b : TapePlanned). Stored text 0 (answerPart b listing sheet p) end after) (sym is) r
+pub part-answered : (listing : Listing) {a : TapePlanned} {text after : List ℕ} {end : ℕ} (sheet plan : List ℕ) (p : ℕ) → listing .answer ≡ a
+    → Stored text 0 (answerPart a listing sheet plan p) end after → Stored text 0 (partOf listing sheet plan p) end after
+part-answered listing {text} {after} {end} sheet plan p is r = subst (λ (b : TapePlanned). Stored text 0 (answerPart b listing sheet plan p) end after) (sym is) r
 
 -- No listing has a part from part 16 on.
-pub parts-bounded : (listing : Listing) (sheet : List ℕ) (p : ℕ) → mostParts ≤ p → partOf listing sheet p ≡ []
-parts-bounded listing sheet p h = by (listing .answer) p h
+pub parts-bounded : (listing : Listing) (sheet plan : List ℕ) (p : ℕ) → mostParts ≤ p → partOf listing sheet plan p ≡ []
+parts-bounded listing sheet plan p h = by (listing .answer) p h
   where
-    by : (a : TapePlanned) (q : ℕ) → mostParts ≤ q → answerPart a listing sheet q ≡ []
+    by : (a : TapePlanned) (q : ℕ) → mostParts ≤ q → answerPart a listing sheet plan q ≡ []
     by a zero l = absurd (omega arith)
-    by Planned (suc q) l = none-behind (listing .blocks) sheet (listing .plan) (suc q) l
+    by Planned (suc q) l = none-behind (listing .blocks) sheet plan (suc q) l
     by (Refused why place) (suc q) l = refl

@@ -9,25 +9,23 @@ use native.Mathlib.Omega.{arith}
 use lib.ListN.{length, take}
 use borrow.Rule.Slice.PartMut.{putMid}
 use Rattle.profile.specs.Line.{capAt, numberAt}
-use Rattle.machine.specs.Numbers.{blockCap, numbersOf}
+use Rattle.machine.specs.Numbers.{numbersOf}
 use Rattle.machine.specs.declared.Machine.{Machine}
 use Rattle.machine.proofs.Runs.{stored-behind}
-use Rattle.machine.proofs.Rampables.{rampable-holds}
-use Rattle.line.specs.Answers.{givenBetween, givenOf}
-use Rattle.line.specs.declared.Given.{Given}
-use Rattle.tape.specs.Tape.{recordAt, recordsIn, tapeLimits}
+use Rattle.machine.specs.declared.Ramp.{Ramp}
+use Rattle.line.specs.Answers.{givenOf}
+use Rattle.tape.specs.Tape.{recordAt, recordsIn}
 use Rattle.tape.proofs.Faults.{tape-passed}
 use Rattle.tapeplan.specs.Planned.{WholeTape, tapeMachine, tapePlan, tapeSpans, wholeRefusal}
 use Rattle.tapeplan.specs.Sheet.{measuredAt, measuredOf}
-use Rattle.tapeplan.specs.declared.Measured.{Measured}
 use Rattle.tapeplan.specs.declared.TapePlanned.{TapePlanned}
 use Rattle.tapeplan.specs.declared.TapePlanned.the-variants.{Planned}
 use Rattle.tapeplan.proofs.Answered.{whole-passed}
-use Rattle.tapeplan.proofs.Plans.{accepted-ramps}
 use Rattle.tapeplan.proofs.Surveys.{cap-is}
 use Rattle.tapeplan.proofs.Wholes.{planned-passed, planned-speeds}
-use Rattle.listing.specs.Listing.{rowOf}
-use Rattle.listing.specs.Rows.{RecordsPass, rowFrom, rowNumbers, rowSize, rowsFrom, sheetRow, tapeRows}
+use Rattle.listing.specs.Parts.{rampBetween}
+use Rattle.listing.specs.Rows.{rowNumbers, rowSize, rowsFrom, sheetRow, shownRow, tapeRows}
+use Rattle.listing.proofs.Plans.{ramp-between}
 
 -- one row more behind others
 rows-more : (row : ℕ → List ℕ) (k n : ℕ) → rowsFrom row k (suc n) ≡ rowsFrom row k n ++ row (k + n)
@@ -67,19 +65,7 @@ module _ (s loaded sheet plan : List ℕ) (passed : wholeRefusal s loaded ≡ 0)
   abbrev m : Machine
   m = tapeMachine s loaded
 
-  -- a block between its two speeds is given out with its ramp,
-  given-is : (k : ℕ) → k < recordsIn s
-      → givenBetween (recordAt s k) (numbersOf m (recordAt s k)) (numberAt (tapePlan s loaded) k) (numberAt (tapePlan s loaded) (k + 1)) ≡ rowOf s loaded k
-  unfolding givenBetween givenOf
-  given-is k h =
-      rw (rampable-holds (numbersOf m (recordAt s k)) (numberAt (tapePlan s loaded) k) (numberAt (tapePlan s loaded) (k + 1)) (accepted-ramps s loaded (whole-passed s loaded passed .0) k h))
-
-  -- the caps of a sheet are those of the blocks,
-  cap-here : (k : ℕ) → k < recordsIn s → measuredAt sheet k .numbers .cap ≡ blockCap (tapeLimits s) (recordAt s k)
-  unfolding numbersOf
-  cap-here k h = ap (λ (r : Measured). r .numbers .cap) (rows k h)
-
-  -- and with the corner they are those of the junctions:
+  -- the caps of a sheet with its corner are those of the junctions:
   junction-here : (k : ℕ) → k < recordsIn s
       → min (min (measuredAt sheet (k - 1) .numbers .cap) (measuredAt sheet k .numbers .cap)) (measuredAt sheet k .corner) ≡ capAt (tapeSpans s loaded) k
   unfolding numbersOf
@@ -90,17 +76,20 @@ module _ (s loaded sheet plan : List ℕ) (passed : wholeRefusal s loaded ≡ 0)
 
   -- so each row is the tape's,
   row-is : (k : ℕ) → k < recordsIn s → sheetRow s sheet plan k ≡ rowNumbers s loaded k
+  unfolding givenOf numbersOf
   row-is k h =
-      (λ i. rowFrom (givenBetween (recordAt s k) (rows k h i .numbers) (speeds k (omega arith) i) (speeds (k + 1) (omega arith) i)) (cap-here k h i) (junction-here k h i))
-      ∙ ap (λ (g : Given). rowFrom g (blockCap (tapeLimits s) (recordAt s k)) (capAt (tapeSpans s loaded) k)) (given-is k h)
+      let entry = numberAt (tapePlan s loaded) k in
+      let exit = numberAt (tapePlan s loaded) (k + 1) in
+      (λ i.
+      shownRow (recordAt s k) (rows k h i) (speeds k (omega arith) i) (speeds (k + 1) (omega arith) i)
+      (rampBetween (rows k h i .numbers) (speeds k (omega arith) i) (speeds (k + 1) (omega arith) i))
+      (junction-here k h i))
+      ∙ ap (λ (r : Ramp). shownRow (recordAt s k) (measuredOf m s k) entry exit r (capAt (tapeSpans s loaded) k)) (ramp-between s loaded (whole-passed s loaded passed .0) k h)
 
   pub rows-are : rowsFrom (sheetRow s sheet plan) 0 (recordsIn s) ≡ tapeRows s loaded
   rows-are = rows-same (sheetRow s sheet plan) (rowNumbers s loaded) 0 (recordsIn s) (λ k h. row-is k (omega arith))
 
 -- The same of a tape that is planned, from the promise of planning it.
-module _ {s loaded sheet sheet′ before after : List ℕ} {r : TapePlanned} (w : WholeTape s loaded sheet sheet′ before after r) (is : r ≡ Planned) where
-  pub planned-rows : rowsFrom (sheetRow s sheet′ after) 0 (recordsIn s) ≡ tapeRows s loaded
-  planned-rows = rows-are s loaded sheet′ after (planned-passed w is) (w .sheet-after .rows (planned-passed w is)) (planned-speeds w is)
-
-  pub planned-records : RecordsPass s
-  planned-records = tape-passed s (whole-passed s loaded (planned-passed w is) .0) .1
+module _ {s loaded sheet before after : List ℕ} {r : TapePlanned} (w : WholeTape s loaded sheet before after r) (is : r ≡ Planned) where
+  pub planned-rows : rowsFrom (sheetRow s sheet after) 0 (recordsIn s) ≡ tapeRows s loaded
+  planned-rows = rows-are s loaded sheet after (planned-passed w is) (w .rows (planned-passed w is)) (planned-speeds w is)

@@ -1,22 +1,21 @@
 -- A tape's listing in parts: what is kept of the tape, and the text of each part, whatever is kept.
 use mathlib.Core.Path.{_≡_}
 use mathlib.Core.Bool.{cond}
-use mathlib.Core.List.{List, [], _++_}
+use mathlib.Core.List.{List, _∷_, [], _++_}
 use Prim.Native.Nat.{ℕ, zero, suc, _+_, _-_, _*_, _/_, min}
 use lib.Dec.{ltb}
-use lib.IntN.{pos}
-use lib.ListN.{replicate}
 use Rattle.profile.specs.Line.{numberAt}
-use Rattle.display.specs.Display.{refusalNumber, byNumber}
+use Rattle.display.specs.Display.{refusalNumber}
 use Rattle.tape.specs.Tape.{recordsIn}
 use Rattle.tape.specs.Answers.{mostBlocks}
-use Rattle.tapeplan.specs.Planned.{mostJunctions, plannedMeans, tapeMachine, tapePlan, wholeFault, wholeRefusal}
-use Rattle.tapeplan.specs.Sheet.{SheetAfter, measuredAt, over}
-use Rattle.machine.specs.Labels.{plainBlock}
-use Rattle.machine.specs.declared.Block.{Block}
-use Rattle.line.specs.Answers.{givenBetween}
-use Rattle.text.specs.Text.{header, refusedAt}
-use Rattle.listing.specs.Given.{givenText, mostGiven}
+use Rattle.tapeplan.specs.Planned.{WholeTape}
+use Rattle.tapeplan.specs.Sheet.{measuredAt}
+use Rattle.tapeplan.specs.declared.Measured.{Measured}
+use Rattle.machine.specs.Numbers.{noRamp, rampOf, rampable}
+use Rattle.machine.specs.declared.Numbers.{Numbers}
+use Rattle.machine.specs.declared.Ramp.{Ramp}
+use Rattle.text.specs.Text.{header, refusedAt, row}
+use Rattle.listing.specs.Given.{mostGiven}
 use Rattle.tapeplan.specs.declared.TapePlanned.{TapePlanned}
 use Rattle.tapeplan.specs.declared.TapePlanned.the-variants.{Planned, Refused}
 use Rattle.listing.specs.declared.Listing.{Listing}
@@ -35,14 +34,20 @@ headerSize = 49
 abbrev pub partSize : ℕ
 partSize = headerSize + partBlocks * mostGiven
 
--- a block of which only the mark is known, as a line shows no more of it
-abbrev pub marked : (mark : ℕ) → Block
-marked mark = plainBlock (pos 0) (pos 0) (pos 0) 0 0 mark
+-- the ramp between two speeds, zeros where no plan has them at the block's ends
+abbrev pub rampBetween : Numbers → (entry exit : ℕ) → Ramp
+rampBetween n entry exit = cond (rampable n entry exit) (rampOf n entry exit) noRamp
+
+-- the nine numbers of a row of a sheet between two speeds, in the header's order
+abbrev pub lineNumbers : Measured → (entry exit : ℕ) → Ramp → List ℕ
+lineNumbers r entry exit ramp =
+    r .mark ∷ r .numbers .length ∷ r .numbers .accel ∷ entry ∷ ramp .peak ∷ exit ∷ ramp .up ∷ ramp .cruise ∷ ramp .down ∷ []
 
 -- the line of row k of a sheet, between the plan's numbers at the block's two ends
 abbrev pub lineOf : (sheet plan : List ℕ) (k : ℕ) → List ℕ
 lineOf sheet plan k =
-    givenText (givenBetween (marked (measuredAt sheet k .mark)) (measuredAt sheet k .numbers) (numberAt plan k) (numberAt plan (k + 1)))
+    let r = measuredAt sheet k in
+    row (lineNumbers r (numberAt plan k) (numberAt plan (k + 1)) (rampBetween (r .numbers) (numberAt plan k) (numberAt plan (k + 1))))
 
 -- the lines of n rows from row k on; there is none behind the last of the blocks
 unfoldable pub rowLines : (blocks : ℕ) (sheet plan : List ℕ) (k n : ℕ) → List ℕ
@@ -67,26 +72,19 @@ unfoldable pub plannedPart : (blocks : ℕ) (sheet plan : List ℕ) (p : ℕ) �
 plannedPart blocks sheet plan p = headIn p ++ rowLines blocks sheet plan (partBlocks * p) (partLines p)
 
 -- part p of any listing: of a refused tape only the refusal's line, in part 0
-abbrev pub answerPart : TapePlanned → Listing → (sheet : List ℕ) (p : ℕ) → List ℕ
-answerPart Planned listing sheet p = plannedPart (listing .blocks) sheet (listing .plan) p
-answerPart (Refused why place) listing sheet p = onlyFirst p (refusedAt (refusalNumber why) place)
+abbrev pub answerPart : TapePlanned → Listing → (sheet plan : List ℕ) (p : ℕ) → List ℕ
+answerPart Planned listing sheet plan p = plannedPart (listing .blocks) sheet plan p
+answerPart (Refused why place) listing sheet plan p = onlyFirst p (refusedAt (refusalNumber why) place)
 
-abbrev pub partOf : Listing → (sheet : List ℕ) (p : ℕ) → List ℕ
-partOf listing sheet p = answerPart (listing .answer) listing sheet p
+abbrev pub partOf : Listing → (sheet plan : List ℕ) (p : ℕ) → List ℕ
+partOf listing sheet plan p = answerPart (listing .answer) listing sheet plan p
 
 -- n parts from part p on, one behind the other
-unfoldable pub partsOf : Listing → (sheet : List ℕ) (p n : ℕ) → List ℕ
-partsOf listing sheet p zero = []
-partsOf listing sheet p (suc n) = partOf listing sheet p ++ partsOf listing sheet (suc p) n
+unfoldable pub partsOf : Listing → (sheet plan : List ℕ) (p n : ℕ) → List ℕ
+partsOf listing sheet plan p zero = []
+partsOf listing sheet plan p (suc n) = partOf listing sheet plan p ++ partsOf listing sheet plan (suc p) n
 
--- the numbers that a plan is made in: zeros, one for each junction of the longest tape
-abbrev pub noPlan : List ℕ
-noPlan = replicate mostJunctions 0
-
--- what is kept of a tape and loaded torque steps: the answer of planning it, the number of its blocks, its plan with zeros behind it, or only zeros where it is refused, and the
--- lent sheet before and after
-pub record ListingFrom (s loaded before after : List ℕ) (listing : Listing) : Type 0 where
-  pub fault : plannedMeans (listing .answer) ≡ wholeFault s loaded
+-- what is kept of a tape and loaded torque steps: the answer of planning it, the number of its blocks, and the sheet and the plan that were lent
+pub record ListingFrom (s loaded sheet before plan : List ℕ) (listing : Listing) : Type 0 where
+  pub whole : WholeTape s loaded sheet before plan (listing .answer)
   pub blocks : listing .blocks ≡ min (recordsIn s) mostBlocks
-  pub plan : listing .plan ≡ byNumber (wholeRefusal s loaded) (over (tapePlan s loaded) noPlan) noPlan
-  pub sheet-after : SheetAfter (tapeMachine s loaded) s (wholeRefusal s loaded) before after

@@ -1,16 +1,18 @@
 -- A tape's list: for each block of a tape a row of numbers, one behind the other.
 use mathlib.Core.List.{List, _∷_, _++_, []}
-use mathlib.Core.Path.{_≡_}
-use Prim.Native.Nat.{ℕ, zero, suc, _+_, _-_, _*_, _<_, min}
+use Prim.Native.Nat.{ℕ, zero, suc, _+_, _-_, _*_, min}
 use Rattle.profile.specs.Line.{capAt, numberAt}
-use Rattle.machine.specs.Checks.{blockRefusal}
 use Rattle.machine.specs.Numbers.{blockCap}
-use Rattle.line.specs.Answers.{givenBetween, givenNumbers}
+use Rattle.machine.specs.declared.Block.{Block}
+use Rattle.machine.specs.declared.Ramp.{Ramp}
+use Rattle.line.specs.Answers.{givenNumbers}
 use Rattle.line.specs.declared.Given.{Given}
 use Rattle.tape.specs.Tape.{recordAt, recordsIn, tapeLimits}
 use Rattle.tapeplan.specs.Planned.{FilledTape, tapeSpans}
 use Rattle.tapeplan.specs.Sheet.{measuredAt}
+use Rattle.tapeplan.specs.declared.Measured.{Measured}
 use Rattle.tapeplan.specs.declared.TapePlanned.{TapePlanned}
+use Rattle.listing.specs.Parts.{rampBetween}
 use Rattle.listing.specs.Listing.{rowOf}
 
 -- numbers of a row
@@ -41,14 +43,31 @@ rowsSize s = rowSize * recordsIn s
 abbrev pub ListedTape : (s loaded before after : List ℕ) → TapePlanned → Type 0
 ListedTape s loaded before after r = FilledTape s loaded (rowsSize s) (tapeRows s loaded) before after r
 
+-- the row of what is measured of a block, between two speeds with the ramp between them
+abbrev pub shownRow : Block → Measured → (entry exit : ℕ) → Ramp → (junction : ℕ) → List ℕ
+shownRow b r entry exit ramp junction =
+    b .feed
+    ∷ b .radius
+    ∷ r .mark
+    ∷ r .numbers .length
+    ∷ r .numbers .accel
+    ∷ entry
+    ∷ exit
+    ∷ ramp .peak
+    ∷ ramp .up
+    ∷ ramp .cruise
+    ∷ ramp .down
+    ∷ r .numbers .cap
+    ∷ junction
+    ∷ []
+
 -- row k as it is made from a sheet and a list of speeds: the laws `row-is` and `planned-rows` say that it is that of the tape
 abbrev pub sheetRow : (s sheet plan : List ℕ) (k : ℕ) → List ℕ
 sheetRow s sheet plan k =
-    rowFrom
-    (givenBetween (recordAt s k) (measuredAt sheet k .numbers) (numberAt plan k) (numberAt plan (k + 1)))
-    (measuredAt sheet k .numbers .cap)
+    shownRow
+    (recordAt s k)
+    (measuredAt sheet k)
+    (numberAt plan k)
+    (numberAt plan (k + 1))
+    (rampBetween (measuredAt sheet k .numbers) (numberAt plan k) (numberAt plan (k + 1)))
     (min (min (measuredAt sheet (k - 1) .numbers .cap) (measuredAt sheet k .numbers .cap)) (measuredAt sheet k .corner))
-
--- every record of the tape passes
-abbrev pub RecordsPass : (s : List ℕ) → Type 0
-RecordsPass s = (k : ℕ) → k < recordsIn s → blockRefusal (recordAt s k) ≡ 0

@@ -1,6 +1,8 @@
 // The line of a listing for a block given out: `mark length accel entry peak exit up cruise down`.
+ghost use mathlib.Core.Path.{_≡_};
 ghost use Prim.Native.Nat.{_+_, _≤_};
 ghost use lib.ListN.{length};
+ghost use Rattle.text.specs.Text.{row};
 ghost use Rattle.listing.specs.Given.{PutGiven, PutRow, WroteLine, givenText, mostGiven};
 use line::Given;
 use text::Put;
@@ -15,6 +17,14 @@ fn put_numbers(out: &mut [u8], at: usize, numbers: &[u64]) -> Put
     ensures { λ r. ⌜ PutRow (now (out .entry)) at (now (numbers .entry)) r (now (out .exit)) ⌝ }
 {
     put_row(out, at, numbers)
+}
+
+// Stores a row of nine numbers, where there is room for the longest.
+pub(crate) fn store_line(out: &mut [u8], at: usize, numbers: &[u64]) -> usize
+    requires { ⌜ (length (now numbers) ≡ 9) × (at + mostGiven ≤ length (now out)) ⌝ }
+    ensures { λ r. ⌜ WroteLine (row (now (numbers .entry))) (now (out .entry)) at r (now (out .exit)) ⌝ }
+{
+    behind(put_numbers(out, at, numbers), at)
 }
 
 // Stores the line of a block given out: at most 190 bytes.

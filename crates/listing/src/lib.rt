@@ -16,12 +16,11 @@ ghost use Rattle.tapeplan.specs.Sheet.{rowsIn, sheetSize};
 ghost use Rattle.listing.specs.Given.{WroteLine, mostGiven};
 ghost use Rattle.listing.specs.Parts.{ListingFrom, headIn, headerSize, lineOf, onlyFirst, partBlocks, partOf, partSize, plannedPart, rowLines};
 use crate::given::LINE;
-use crate::given::store_given;
+use crate::given::store_line;
 use arith::whole::fewer;
 use display::Refusal;
 use display::refusal_number;
-use machine::blocks::plain_block;
-use ramps::given_between;
+use ramps::ramp_between;
 use tape::MOST_BLOCKS;
 use tape::records::records_in;
 use tapeplan::TapePlanned;
@@ -47,11 +46,22 @@ fn put_block(sheet: &[u64], plan: &[u64], k: usize, text: &mut [u8], at: usize) 
     ensures { λ r. ⌜ WroteLine (lineOf (now (sheet .entry)) (now (plan .entry)) k) (now (text .entry)) at r (now (text .exit)) ⌝ }
 {
     let row = measured_at(sheet, k);
-    let b = plain_block(0, 0, 0, 0, 0, row.mark);
+    let n = row.numbers;
     let entry = plan[k];
     let exit = plan[k + 1];
-    let g = given_between(b, row.numbers, entry, exit);
-    store_given(text, at, g)
+    let ramp = ramp_between(n, entry, exit);
+    let numbers = [
+        row.mark,
+        n.length,
+        n.accel,
+        entry,
+        ramp.peak,
+        exit,
+        ramp.up,
+        ramp.cruise,
+        ramp.down,
+    ];
+    store_line(text, at, &numbers)
 }
 
 // Stores the lines of 128 blocks from block `first` on, as far as there are so many.
@@ -113,42 +123,50 @@ fn put_part(blocks: usize, sheet: &[u64], plan: &[u64], p: usize, text: &mut [u8
     put_lines(blocks, sheet, plan, BLOCKS * p, text, at)
 }
 
-// What a tape's listing is made from, besides its sheet. Only `of` makes one, so every speed in it is a plan's.
+// What a tape's listing is made from, besides its sheet and its plan. Only `of` makes one.
 pub struct Listing {
     // the answer of planning the tape
     answer: TapePlanned,
     // how many blocks the tape has
     blocks: usize,
-    // the squared speed at each junction, (µm/s)², and zeros behind them
-    plan: [u64; JUNCTIONS],
 }
 
 impl Listing {
     // Plans a tape with the torque steps that are loaded, eight bytes, or none for the built-in steps, and stores what is
-    // measured of each block in the lent sheet; on a refusal the sheet holds what it held. Each record is decoded and its
-    // numbers are worked out once.
-    pub fn of(s: &[u8], steps: &[u8], sheet: &mut [u64; SHEET]) -> Listing
-        ensures { λ r. ⌜ ListingFrom (now (s .entry)) (now (steps .entry)) (now (sheet .entry)) (now (sheet .exit)) r ⌝ }
+    // measured of each block in the lent sheet, and the squared speed at each junction, (µm/s)², at the beginning of the lent
+    // plan. On a refusal the plan holds what it held, and the sheet anything. Each record is decoded and its numbers are worked
+    // out once.
+    pub fn of(
+        s: &[u8],
+        steps: &[u8],
+        sheet: &mut [u64; SHEET],
+        plan: &mut [u64; JUNCTIONS],
+    ) -> Listing
+        ensures { λ r. ⌜ ListingFrom (now (s .entry)) (now (steps .entry)) (now (sheet .exit)) (now (plan .entry)) (now (plan .exit)) r ⌝ }
     {
-        let mut plan = [0u64; JUNCTIONS];
-        let answer = plan_whole(s, steps, sheet, &mut plan);
+        let answer = plan_whole(s, steps, sheet, plan);
         Listing {
             answer: answer,
             blocks: fewer(records_in(s), MOST_BLOCKS),
-            plan: plan,
         }
     }
 
-    // Stores part p, counted from 0, of the listing of the tape that this and the sheet were made from at the beginning of
-    // the lent text, whose other bytes stay as they are. Returns how many bytes it has: 0 behind the last part, and then of
+    // Stores part p, counted from 0, of the listing of the tape that this, the sheet and the plan were made from at the beginning
+    // of the lent text, whose other bytes stay as they are. Returns how many bytes it has: 0 behind the last part, and then of
     // every later one.
-    pub fn part(self, sheet: &[u64; SHEET], p: usize, text: &mut [u8; TEXT]) -> usize
-        ensures { λ r. ⌜ Stored (now (text .entry)) 0 (partOf self (now (sheet .entry)) p) r (now (text .exit)) ⌝ }
+    pub fn part(
+        self,
+        sheet: &[u64; SHEET],
+        plan: &[u64; JUNCTIONS],
+        p: usize,
+        text: &mut [u8; TEXT],
+    ) -> usize
+        ensures { λ r. ⌜ Stored (now (text .entry)) 0 (partOf self (now (sheet .entry)) (now (plan .entry)) p) r (now (text .exit)) ⌝ }
     {
         let answer = self.answer;
         match answer {
             TapePlanned::Refused(why, place) => put_refusal(p, why, place, text),
-            TapePlanned::Planned => put_part(self.blocks, sheet, &self.plan, p, text),
+            TapePlanned::Planned => put_part(self.blocks, sheet, plan, p, text),
         }
     }
 }

@@ -13,6 +13,7 @@ use streams::Input;
 use streams::read_input;
 use tape::MOST_BYTES;
 use tapeplan::sheet::SHEET;
+use tapeplan::whole::JUNCTIONS;
 
 // One byte more than the longest tape: a longer input is refused by 10 whatever follows, so no more of it is read.
 const INPUT: usize = MOST_BYTES + 1;
@@ -21,11 +22,12 @@ const INPUT: usize = MOST_BYTES + 1;
 // byte: behind that there is none.
 fn list(tape: &[u8], steps: &[u8]) {
     let mut sheet = [0u64; SHEET];
-    let listing = Listing::of(tape, steps, &mut sheet);
+    let mut plan = [0u64; JUNCTIONS];
+    let listing = Listing::of(tape, steps, &mut sheet, &mut plan);
     let mut text = [0u8; TEXT];
     let mut p: usize = 0;
     while p < PARTS {
-        let end = listing.part(&sheet, p, &mut text);
+        let end = listing.part(&sheet, &plan, p, &mut text);
         if end == 0 {
             return;
         }

@@ -58,8 +58,10 @@ fn is_rampable(n: Numbers, entry: u64, exit: u64) -> bool
     is_sized(n, entry, exit) & (falls & rises)
 }
 
-// The ramp between two squared speeds, (µm/s)²; zeros for speeds that no plan has at a block's ends.
-fn ramp_between(n: Numbers, entry: u64, exit: u64) -> Ramp
+// The ramp between two squared speeds, (µm/s)²; zeros for speeds that no plan has at a block's ends. This is the one door to a
+// ramp, for the crates that take both speeds from a plan of their own: `planner`, `listing` and `report`. A crate that does not
+// list `ramps` in crates.txt cannot name it, so it cannot make a ramp; that no other crate lists it is tested (tests/run).
+pub fn ramp_between(n: Numbers, entry: u64, exit: u64) -> Ramp
     ensures { λ r. ⌜ r ≡ cond (rampable n entry exit) (rampOf n entry exit) noRamp ⌝ }
 {
     if is_rampable(n, entry, exit) {
@@ -74,10 +76,6 @@ fn ramp_between(n: Numbers, entry: u64, exit: u64) -> Ramp
 }
 
 // A block given out, from its numbers and the entry and exit that a plan has at its ends, (µm/s)².
-// This is the one door to a ramp, for the two crates that take both speeds from a plan of their own: `planner` and
-// `listing`. A crate that does not list `ramps` in crates.txt cannot name this function, so it cannot make a ramp; that no
-// other crate lists it is tested (tests/run). The functions of the planner, of the tape's listing and for C take no speed.
-// The language has no narrower door: a function is seen by its own crate alone or by every crate that lists its crate.
 pub fn given_between(b: Block, n: Numbers, entry: u64, exit: u64) -> Given
     ensures { λ r. ⌜ r ≡ givenBetween b n entry exit ⌝ }
 {

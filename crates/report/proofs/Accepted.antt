@@ -126,16 +126,16 @@ module _ (s loaded sheet plan : List ℕ) (passed : wholeRefusal s loaded ≡ 0)
       }
 
 -- The same of a tape that is planned, from the promise of planning it.
-module _ {s loaded sheet sheet′ before after : List ℕ} {r : TapePlanned} (w : WholeTape s loaded sheet sheet′ before after r) (is : r ≡ Planned) where
+module _ {s loaded sheet before after : List ℕ} {r : TapePlanned} (w : WholeTape s loaded sheet before after r) (is : r ≡ Planned) where
   abbrev passed : wholeRefusal s loaded ≡ 0
   passed = planned-passed w is
 
-  pub planned-figures : rowFigures sheet′ after (recordsIn s) ≡ figuresOf s loaded
-  planned-figures = figures-are s loaded sheet′ after passed (w .sheet-after .rows passed) (planned-speeds w is)
+  pub planned-figures : rowFigures sheet after (recordsIn s) ≡ figuresOf s loaded
+  planned-figures = figures-are s loaded sheet after passed (w .rows passed) (planned-speeds w is)
 
-  pub planned-held : listFrom (rowHeld sheet′ after) 0 (recordsIn s - 1) ≡ heldList s loaded
-  planned-held = list-are s loaded sheet′ after passed (w .sheet-after .rows passed) (planned-speeds w is)
+  pub planned-held : listFrom (rowHeld sheet after) 0 (recordsIn s - 1) ≡ heldList s loaded
+  planned-held = list-are s loaded sheet after passed (w .rows passed) (planned-speeds w is)
 
-  pub planned-countable : length sheet ≡ sheetSize → length before ≡ mostJunctions → Countable sheet′ after (recordsIn s)
-  planned-countable size junctions =
-      rows-countable s loaded sheet′ after passed (w .sheet-after .rows passed) (planned-speeds w is) (w .sheet-after .sized ∙ size) (w .sized ∙ junctions)
+  pub planned-countable : length before ≡ mostJunctions → Countable sheet after (recordsIn s)
+  planned-countable junctions =
+      rows-countable s loaded sheet after passed (w .rows passed) (planned-speeds w is) (w .room) (w .sized ∙ junctions)

@@ -10,7 +10,7 @@ use lib.ListN.{length, getD, set, drop-of-length-le}
 use Rattle.profile.specs.Line.{numberAt}
 use Rattle.tape.specs.Answers.{mostBlocks}
 use Rattle.tapeplan.specs.Sheet.{measuredAt, over}
-use Rattle.tapeplan.proofs.Copies.{Copying, copy-next}
+use Rattle.report.proofs.Copies.{Copying, copy-next}
 use Rattle.report.specs.Counts.{countTo, greatestTo, listFrom, one, sumTo}
 use Rattle.report.specs.Figures.{noFigures}
 use Rattle.report.specs.Rows.{Countable, blockFigures, heldFigures, heldFrom, rowFigures, rowHeld, rowLength, rowPeak, rowsHeld}

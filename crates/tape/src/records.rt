@@ -5,7 +5,7 @@ ghost use lib.ListN.{length};
 ghost use Rattle.fields.specs.Layouts.{InWidths};
 ghost use Rattle.fields.specs.Bytes.{withBytes};
 ghost use Rattle.fields.specs.Fields.{Bits};
-ghost use Rattle.tape.specs.Tape.{blockAt, blockFields, blockNumber, recordBytes, recordLayout, recordStart, recordsIn};
+ghost use Rattle.tape.specs.Tape.{blockAt, blockFields, blockNumber, recordAt, recordBytes, recordLayout, recordStart, recordsIn};
 ghost use Rattle.tape.specs.Answers.{readAt, readRecord, recordMeans, recordWriteRefusal, recordWritten, tapeWriteRefusal, tapeWritten, Wrote};
 use crate::LIMITS_BYTES;
 use crate::RECORD_BYTES;
@@ -133,6 +133,15 @@ pub fn records_in(s: &[u8]) -> usize
         return 0;
     }
     (s.len() - LIMITS_BYTES) / RECORD_BYTES
+}
+
+// The block that record k of a tape says, k counted from 0, unchecked.
+pub fn block_at(s: &[u8], k: usize) -> Block
+    requires { ⌜ k < recordsIn (now s) ⌝ }
+    ensures { λ r. ⌜ r ≡ recordAt (now (s .entry)) k ⌝ }
+{
+    let from = LIMITS_BYTES + RECORD_BYTES * k;
+    decode_record(&s[from..])
 }
 
 // Reads record k of a tape, k counted from 0, wherever the tape ends: 9 where that is before the record does, then 2 to 6.

@@ -29,7 +29,7 @@ pub fn read_head(s: &[u8]) -> LimitsRead
 }
 
 // Checks each record in turn. Each lies whole in the tape, so that reading one is never refused by 9.
-fn check_records(s: &[u8]) -> TapeCheck
+pub fn check_records(s: &[u8]) -> TapeCheck
     ensures { λ r. ⌜ tapeMeans r ≡ checkRecords (now (s .entry)) ⌝ }
 {
     let n = records_in(s);

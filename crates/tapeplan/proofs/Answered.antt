@@ -1,5 +1,5 @@
 -- What planning a whole tape answers, from its faults. From the laws of a tape's answers and faults.
-use mathlib.Core.Path.{_≡_, sym, ap, _∙_}
+use mathlib.Core.Path.{_≡_, refl, sym, ap, _∙_}
 use mathlib.Core.List.{List}
 use Prim.Native.Nat.{ℕ, _+_, _<_, zero-le}
 use native.Mathlib.Omega.{arith}
@@ -8,19 +8,40 @@ use lib.Dec.{eqb}
 use lib.ListN.{length}
 use Rattle.profile.proofs.Highest.{plan-highest}
 use mathlib.Core.Bool.{cond}
-use Rattle.display.specs.Display.{refusalNumber, Fault, _at_}
-use Rattle.machine.specs.Torque.{stepsRefusal}
+use Rattle.display.specs.Display.{refusalNumber, Fault, _at_, given, refused, orRefused}
+use Rattle.machine.specs.Answers.{loadedAnswer}
+use Rattle.machine.specs.Torque.{machineOf, stepsRefusal}
+use Rattle.machine.specs.declared.Limits.{Limits}
+use Rattle.machine.specs.declared.Machine.{Machine}
 use Rattle.tape.specs.Answers.{faultFrom, headRefusal, tapeRefusal}
-use Rattle.display.proofs.Answers.{refusal-above, at-zero, above-zero, then-second, then-zero}
+use Rattle.display.proofs.Answers.{refusal-above, refuses-by, refused-is, given-is, at-zero, above-zero, then-first, then-second, then-zero}
 use Rattle.display.specs.declared.Refusal.{Refusal}
 use Rattle.display.specs.declared.Refusal.the-variants as why
-use Rattle.tape.specs.Tape.{recordsIn, tapeBlocks}
+use Rattle.tape.specs.Tape.{recordsIn, tapeBlocks, tapeLimits}
 use Rattle.tape.proofs.Faults.{fault-records, neither, tape-faultless, tape-passed}
-use Rattle.tapeplan.specs.Planned.{tapePlan, tapeSpans, startRefusal, wholeFault, wholeRefusal, planFault, PlannedTape, SurveyedTape}
+use Rattle.tapeplan.specs.Planned.{tapeMachine, tapePlan, tapeSpans, startAnswer, startRefusal, wholeFault, wholeRefusal, planFault, PlannedTape, SurveyedTape}
 use Rattle.tapeplan.specs.declared.TapePlanned.the-variants.{Planned, Refused}
 
 -- The whole tape's checks: what comes before the records decides, or the records do.
 module _ (s loaded : List ℕ) where
+  -- the machine, where head and steps pass
+  pub start-refused : (r : Refusal) → 0 < headRefusal s → headRefusal s ≡ refusalNumber r → refused (refusalNumber r) ≡ startAnswer s loaded
+  unfolding startAnswer
+  start-refused r h e = refuses-by (tapeMachine s loaded) r (then-first (stepsRefusal loaded) h ∙ e)
+
+  pub start-loaded : {l : Limits} → headRefusal s ≡ 0 → l ≡ tapeLimits s → loadedAnswer l loaded ≡ startAnswer s loaded
+  unfolding startAnswer
+  start-loaded e f = λ i. orRefused (sym (then-second {b = stepsRefusal loaded} e refl) i) (machineOf (f i) loaded)
+
+  -- and what its answer says
+  pub start-none : (r : Refusal) → refused (refusalNumber r) ≡ startAnswer s loaded → startRefusal s loaded ≡ refusalNumber r
+  unfolding startAnswer
+  start-none r e = sym (refused-is (tapeMachine s loaded) (startRefusal s loaded) (startRefusal s loaded) e .1)
+
+  pub start-given : {m : Machine} → given m ≡ startAnswer s loaded → ((headRefusal s ≡ 0) × (stepsRefusal loaded ≡ 0)) × (m ≡ tapeMachine s loaded)
+  unfolding startAnswer
+  start-given e = let r = given-is (tapeMachine s loaded) (startRefusal s loaded) (startRefusal s loaded) e in (then-zero (headRefusal s) (r .0), r .1)
+
   pub whole-start : 0 < startRefusal s loaded → wholeFault s loaded ≡ startRefusal s loaded at 0
   unfolding wholeFault
   whole-start h = above-zero (faultFrom 1 (tapeBlocks s)) (startRefusal s loaded at 0) h

@@ -1,9 +1,6 @@
 -- The laws of planning a whole tape.
 pub mod Answered
-pub mod Copies
 pub mod Demand
-pub mod Filled
-pub mod LentLaws
 pub mod Plans
 pub mod Sheets
 pub mod Sized

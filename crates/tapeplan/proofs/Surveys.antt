@@ -19,10 +19,10 @@ use Rattle.machine.proofs.Junctions.{numbers-joinable}
 use Rattle.machine.proofs.Spans.{spans-length, spans-first, spans-cap, spans-reach}
 use Rattle.tape.specs.Tape.{recordAt, recordsIn, tapeBlocks}
 use Rattle.tape.proofs.Faults.{length-blocks, getD-blocks, PassedBefore, passed-next}
-use Rattle.tapeplan.specs.Lent.{lineOf}
+use Rattle.passes.specs.Lent.{lineOf}
 use Rattle.tapeplan.specs.declared.Measured.{Measured}
 use Rattle.tapeplan.specs.Sheet.{Measures, Keeps, cornerAt}
-use Rattle.tapeplan.proofs.Filled.{Filled, filled-more, filled-line}
+use Rattle.passes.proofs.Filled.{Filled, filled-more, filled-line}
 use Rattle.tapeplan.proofs.Sheets.{measures-next}
 
 module _ (m : Machine) (s : List ℕ) where

@@ -1,24 +1,27 @@
 -- A tape planned in a list with room for any plan: the plan is over its beginning, and 11 is never given. From the laws of a tape's faults.
-use mathlib.Core.Path.{_≡_, refl, sym, ap, subst, _∙_}
+use mathlib.Core.Path.{_≡_, refl, sym, ap, _∙_}
 use mathlib.Core.List.{List, _++_}
 use Prim.Native.Nat.{ℕ, zero, suc, _+_, _≤_, _<_, min}
 use native.Mathlib.Omega.{arith}
 use borrow.Author.Tests.{eq-eqb}
 use mathlib.Core.Bool.{cond}
 use lib.ListN.{length, take, drop, take-append-drop, List·getD-append}
-use lib.Seq.{length-take-le}
+use lib.Seq.{length-front, length-take-le}
 use Rattle.profile.specs.Line.{numberAt}
 use Rattle.display.specs.Display.{Fault, _at_, byNumber}
 use Rattle.display.proofs.Answers.{at-zero, above-zero}
 use Rattle.tape.specs.Answers.{mostBlocks}
 use Rattle.tape.specs.Tape.{recordsIn}
-use Rattle.tapeplan.specs.Planned.{MeasuredTape, WholeTape, mostJunctions, planFault, plannedMeans, tapeMachine, tapePlan, wholeFault, wholeRefusal}
-use Rattle.tapeplan.specs.Sheet.{SheetAfter, over}
+use Rattle.tapeplan.specs.Planned.{SurveyedTape, WholeTape, mostJunctions, planFault, plannedMeans, tapePlan, wholeFault, wholeRefusal}
+use Rattle.tapeplan.specs.Sheet.{over, sheetSize}
 use Rattle.tapeplan.specs.declared.TapePlanned.{TapePlanned}
 use Rattle.tapeplan.specs.declared.TapePlanned.the-variants.{Planned}
 use Rattle.tapeplan.proofs.Answered.{whole-faultless, whole-passed}
-use Rattle.tapeplan.proofs.Copies.{over-length}
 use Rattle.tapeplan.proofs.Plans.{accepted-junctions, accepted-records}
+
+-- a list over the beginning of another, which keeps its length
+over-length : (from to : List ℕ) → length from ≤ length to → length (over from to) ≡ length to
+over-length from to h = length-front to from (length from) (sym (length-take-le (length from) to h))
 
 module _ (s loaded : List ℕ) where
   -- a list with a number for each junction, as far as the longest tape has them, is never at fault
@@ -69,9 +72,9 @@ module _ (s loaded : List ℕ) where
     pub lent-length : length (take n before) ≡ n
     lent-length = length-take-le n before (omega arith)
 
-    pub whole-planned : {answer : TapePlanned} {sheet sheet′ planned : List ℕ} → MeasuredTape s loaded sheet sheet′ (take n before) planned answer
-        → WholeTape s loaded sheet sheet′ before (planned ++ drop n before) answer
-    whole-planned {sheet} {sheet′} {planned} r =
+    pub whole-planned : {answer : TapePlanned} {sheet planned : List ℕ} → length sheet ≡ sheetSize → SurveyedTape s loaded sheet (take n before) planned answer
+        → WholeTape s loaded sheet before (planned ++ drop n before) answer
+    whole-planned {sheet} {planned} room r =
         let same : planFault s loaded (length (take n before)) ≡ wholeFault s loaded = ap (planFault s loaded) (lent-length ∙ count) ∙ fault-same in
         let list = ap (λ (j : ℕ). planned ++ drop j before) count
         ∙ plan-over before (r .planned .list ∙ (λ i. byNumber (same i .number) (tapePlan s loaded) (take (count i) before))) in
@@ -79,7 +82,8 @@ module _ (s loaded : List ℕ) where
           fault = r .planned .fault ∙ same;
           sized = ap length list ∙ over-sized before size;
           list = list;
-          sheet-after = subst (λ (f : Fault). SheetAfter (tapeMachine s loaded) s (f .number) sheet sheet′) same (r .sheet-after);
+          room = room;
+          rows = λ z k h. r .measured z k h (omega (arith, accepted-records s (whole-passed s loaded z .0)));
         }
 
 -- the plan stands at the beginning of such a list
@@ -90,7 +94,7 @@ plan-front s loaded before passed e k h =
     ∙ List·getD-append (tapePlan s loaded) (drop (length (tapePlan s loaded)) before) 0 k (omega (arith, accepted-junctions s loaded (whole-passed s loaded passed .0)))
 
 -- A tape that is planned so has passed its checks, its plan stands at the beginning, and it has no more records than any tape.
-module _ {s loaded sheet sheet′ before after : List ℕ} {r : TapePlanned} (w : WholeTape s loaded sheet sheet′ before after r) (is : r ≡ Planned) where
+module _ {s loaded sheet before after : List ℕ} {r : TapePlanned} (w : WholeTape s loaded sheet before after r) (is : r ≡ Planned) where
   pub planned-passed : wholeRefusal s loaded ≡ 0
   planned-passed = ap (λ (f : Fault). f .number) (sym (w .fault) ∙ ap plannedMeans is)
 

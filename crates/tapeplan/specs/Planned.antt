@@ -1,19 +1,19 @@
 -- The whole-tape planner of document 01: its refusals and the list that it leaves.
 use mathlib.Core.Path.{_≡_}
 use mathlib.Core.List.{List}
-use Prim.Native.Nat.{ℕ, _+_}
+use Prim.Native.Nat.{ℕ, _+_, _<_}
 use lib.Dec.{eqb}
 use lib.ListN.{length}
 use Rattle.profile.specs.Line.{Span, Highest}
 use Rattle.profile.specs.Passes.{planOf}
 use mathlib.Core.Bool.{cond}
-use Rattle.display.specs.Display.{refusalNumber, Fault, byNumber, _then_, _at_, _else_}
+use Rattle.display.specs.Display.{refusalNumber, Fault, Outcome, byNumber, orRefused, _then_, _at_, _else_}
 use Rattle.tape.specs.Answers.{faultFrom, headRefusal, mostBlocks}
 use Rattle.machine.specs.Line.{spansOf}
 use Rattle.machine.specs.Torque.{machineOf, stepsRefusal}
 use Rattle.machine.specs.declared.Machine.{Machine}
 use Rattle.tape.specs.Tape.{recordsIn, tapeLimits, tapeBlocks}
-use Rattle.tapeplan.specs.Sheet.{Measures, SheetAfter, over}
+use Rattle.tapeplan.specs.Sheet.{Measures, measuredAt, measuredOf, over, sheetSize}
 use Rattle.tapeplan.specs.declared.TapePlanned.{TapePlanned}
 use Rattle.tapeplan.specs.declared.TapePlanned.the-variants.{Planned, Refused}
 
@@ -31,6 +31,10 @@ tapePlan s loaded = planOf 0 (tapeSpans s loaded)
 -- the whole tape's checks: 10, 9 and 1 of the tape, and 14 of the loaded steps, which come before its records,
 abbrev pub startRefusal : (s loaded : List ℕ) → ℕ
 startRefusal s loaded = headRefusal s then stepsRefusal loaded
+
+-- and the machine where these pass,
+unfoldable pub startAnswer : (s loaded : List ℕ) → Outcome ℕ Machine
+startAnswer s loaded = orRefused (startRefusal s loaded) (tapeMachine s loaded)
 
 -- and then the records in turn
 unfoldable pub wholeFault : (s loaded : List ℕ) → Fault
@@ -73,22 +77,18 @@ pub record SurveyedTape (s loaded sheet before after : List ℕ) (r : TapePlanne
   pub planned : PlannedTape s loaded before after r
   pub measured : wholeRefusal s loaded ≡ 0 → Measures (tapeMachine s loaded) s sheet (recordsIn s)
 
--- the plan of a tape, and the lent sheet before and after it
-pub record MeasuredTape (s loaded sheet sheet′ before after : List ℕ) (r : TapePlanned) : Type 0 where
-  pub planned : PlannedTape s loaded before after r
-  pub sheet-after : SheetAfter (tapeMachine s loaded) s (planFault s loaded (length before) .number) sheet sheet′
-
 -- junctions of the longest tape
 abbrev pub mostJunctions : ℕ
 mostJunctions = mostBlocks + 1
 
--- The same with a list that has room for the plan of any tape, so that 11 is never given: the plan stands at its beginning; of a tape that is refused
--- all of it is as it was.
-pub record WholeTape (s loaded sheet sheet′ before after : List ℕ) (r : TapePlanned) : Type 0 where
+-- The same with a list that has room for the plan of any tape, so that 11 is never given: the plan stands at its beginning; of a tape that is refused all of
+-- it is as it was. The sheet has a row for each block of a tape that is planned, and of one that is refused anything.
+pub record WholeTape (s loaded sheet before after : List ℕ) (r : TapePlanned) : Type 0 where
   pub fault : plannedMeans r ≡ wholeFault s loaded
   pub sized : length after ≡ length before
   pub list : after ≡ byNumber (wholeRefusal s loaded) (over (tapePlan s loaded) before) before
-  pub sheet-after : SheetAfter (tapeMachine s loaded) s (wholeRefusal s loaded) sheet sheet′
+  pub room : length sheet ≡ sheetSize
+  pub rows : wholeRefusal s loaded ≡ 0 → (k : ℕ) → k < recordsIn s → measuredAt sheet k ≡ measuredOf (tapeMachine s loaded) s k
 
 -- Demand 3 of an accepted tape with accepted torque steps, from rest to rest, in a list one longer than its blocks: the tape is planned, the list
 -- is the plan of its blocks, so a lawful profile exists, the list is one, and no lawful profile is above it anywhere

@@ -8,7 +8,7 @@ use Rattle.machine.specs.Caps.{cornerBetween}
 use Rattle.machine.specs.Numbers.{numbersOf, squareOf}
 use Rattle.machine.specs.declared.Machine.{Machine}
 use Rattle.tape.specs.Answers.{mostBlocks}
-use Rattle.tape.specs.Tape.{recordAt, recordsIn}
+use Rattle.tape.specs.Tape.{recordAt}
 use Rattle.tapeplan.specs.declared.Measured.{Measured}
 
 -- numbers of a row: mark, length, acceleration, reach, cap, v squared, and the corner cap where the block begins
@@ -66,11 +66,3 @@ pub record Keeps (before : List ℕ) (k : ℕ) (row : Measured) (after : List �
 -- a list over the beginning of another
 abbrev pub over : (from to : List ℕ) → List ℕ
 over from to = from ++ drop (length from) to
-
--- the lent sheet after a tape for that machine is planned, or refused by a number other than 0: row k is what is measured of block k, for each block
--- of a tape that is planned, and behind these rows it is what it was; of a tape that is refused all of it is
-pub record SheetAfter (m : Machine) (s : List ℕ) (refusal : ℕ) (before after : List ℕ) : Type 0 where
-  pub sized : length after ≡ length before
-  pub rows : refusal ≡ 0 → (k : ℕ) → k < recordsIn s → measuredAt after k ≡ measuredOf m s k
-  pub behind : refusal ≡ 0 → drop (rowSize * recordsIn s) after ≡ drop (rowSize * recordsIn s) before
-  pub kept : 0 < refusal → after ≡ before

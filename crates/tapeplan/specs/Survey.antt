@@ -8,7 +8,7 @@ use Rattle.machine.specs.declared.Machine.{Machine}
 use Rattle.tape.specs.Tape.{recordsIn, tapeBlocks}
 use Rattle.tape.specs.Answers.{faultFrom, tapeMeans, checkRecords}
 use Rattle.tape.specs.declared.TapeCheck.{TapeCheck}
-use Rattle.tapeplan.specs.Lent.{lineOf}
+use Rattle.passes.specs.Lent.{lineOf}
 use Rattle.tapeplan.specs.Sheet.{Measures}
 
 -- the records are checked in turn; where all pass, the lists begin with the caps and the reaches of the blocks, and the sheet has

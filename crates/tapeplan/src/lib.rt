@@ -1,6 +1,5 @@
 // The plan of a whole tape, from rest to rest, into a lent list of squared speeds, (µm/s)².
 mod junctions;
-mod passes;
 pub mod sheet;
 mod survey;
 pub mod whole;
@@ -15,8 +14,8 @@ pub enum TapePlanned {
     Refused(Refusal, usize),
 }
 
-// What is measured of a block: its mark, its numbers, the square of its speed, (µm/s)², and the corner cap where it begins, as
-// a number beside the block caps of that junction (`machine::corner::corner_beside`); 0 for the first block.
+// What a sheet has of a block: its mark, feed and radius, its numbers, the square of its speed, (µm/s)², and the corner cap where
+// it begins, as a number beside the block caps of that junction (`machine::corner::corner_beside`); 0 for the first block.
 pub struct Measured {
     pub mark: u64,
     pub numbers: Numbers,

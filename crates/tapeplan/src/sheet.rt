@@ -1,15 +1,14 @@
-// The sheet of a survey: a row of seven numbers for each block, in a list that is lent. A block that has no row in it is not
+// The sheet of a survey: a row of nine numbers for each block, in a list that is lent. A block that has no row in it is not
 // kept, so that who needs no sheet lends an empty list.
 ghost use mathlib.Core.Path.{_≡_};
-ghost use Prim.Native.Nat.{_<_, _≤_};
-ghost use lib.ListN.{length};
-ghost use Rattle.tapeplan.specs.Sheet.{Keeps, measuredAt, over, rowsIn};
+ghost use Prim.Native.Nat.{_<_};
+ghost use Rattle.tapeplan.specs.Sheet.{Keeps, measuredAt, rowsIn};
 use crate::Measured;
 use machine::Numbers;
 use tape::MOST_BLOCKS;
 
-// Numbers of a row: the block's mark, its length, acceleration, reach and cap, the square of its speed, and the corner cap
-// where it begins.
+// Numbers of a row: the block's mark, feed and radius, its length, acceleration, reach and cap, the square of its speed, and the
+// corner cap where it begins.
 pub const ROW: usize = 7;
 // Numbers of a sheet with a row for each block of the longest tape.
 pub const SHEET: usize = ROW * MOST_BLOCKS;
@@ -30,18 +29,6 @@ pub(crate) fn keep(sheet: &mut [u64], k: usize, row: Measured)
     sheet[at + 4] = n.cap;
     sheet[at + 5] = row.square;
     sheet[at + 6] = row.corner;
-}
-
-// Copies a list over the beginning of another.
-pub(crate) fn copy(from: &[u64], to: &mut [u64])
-    requires { ⌜ length (now from) ≤ length (now to) ⌝ }
-    ensures { λ r. ⌜ now (to .exit) ≡ over (now (from .entry)) (now (to .entry)) ⌝ }
-{
-    let mut k = 0;
-    while k < from.len() {
-        to[k] = from[k];
-        k += 1;
-    }
 }
 
 // Row k.

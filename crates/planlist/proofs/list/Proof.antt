@@ -7,10 +7,10 @@ use Rattle.planlist.proofs.list.Statement.{statement}
 use Rattle.planlist.proofs.list.Tie as tie
 
 abbrev Inv-loop : tie.InvT-loop
-Inv-loop tape steps sheet listing text₀ p₀ t7 text p = Unit {0}
+Inv-loop tape steps sheet plan listing text₀ p₀ t7 text p = Unit {0}
 
 abbrev μ-loop : tie.MeasureT-loop
-μ-loop tape steps sheet listing text₀ p₀ t7 text p = mostParts - p
+μ-loop tape steps sheet plan listing text₀ p₀ t7 text p = mostParts - p
 
 array-share-prefix-text : tie.Need-array-share-prefix-text Inv-loop μ-loop
 array-share-prefix-text c = within (c .before .part .ensures) zero-le

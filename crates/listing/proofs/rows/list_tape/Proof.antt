@@ -6,8 +6,8 @@ use native.Mathlib.Omega.{arith}
 use Rattle.tapeplan.specs.Planned.{plannedMeans}
 use Rattle.tapeplan.proofs.Sized.{filled-refused, filled-unfit, filled-whole}
 use Rattle.tapeplan.proofs.Wholes.{planned-few, planned-passed}
-use Rattle.listing.specs.Rows.{rowSize, rowsSize, tapeRows}
-use Rattle.listing.proofs.TapeRows.{planned-records, planned-rows}
+use Rattle.listing.specs.Rows.{rowSize, rowsFrom, rowsSize, tapeRows}
+use Rattle.listing.proofs.TapeRows.{planned-rows}
 use borrow.Author.Needs.{needs}
 use Rattle.listing.proofs.rows.list_tape.Statement.{statement}
 use Rattle.listing.proofs.rows.list_tape.Tie as tie
@@ -18,7 +18,7 @@ module _ (c : tie.After-records-in) where
   told = c .before
 
   abbrev planned : tie.After-plan-whole
-  planned = told .before .before
+  planned = told .before .before .before .before
 
   abbrev start : tie.Start
   start = planned .before .before .before .before .before .before
@@ -45,12 +45,12 @@ put-rows-requires c κs =
     let w = planned k .plan-whole .ensures in
     let is = told k .enum-told .given .1 in
     let few = planned-few w is in
-    (planned-records w is, omega (arith, w .sheet-after .sized, few), omega (arith, w .sized, few), c .before .before .before .if1 .left ∙ size k)
+    (omega (arith, k .records-in .ensures), omega (arith, w .room, few, k .records-in .ensures), omega (arith, w .sized, few, k .records-in .ensures), c .before .before .before .if1 .left)
 
 returns-2 : tie.Need-returns-2
 returns-2 c =
     let why = c .before .why .given in
-    let p = c .before .before .before in
+    let p = c .before .before .before .before .before in
     let a = p .before .before .before .before .before .before .args in
     filled-refused (a .s .now) (a .steps .now) (rowsSize (a .s .now)) (tapeRows (a .s .now) (a .steps .now)) (a .list .now) (why .0 .0) (why .0 .1 .0)
     (sym (ap plannedMeans (why .1)) ∙ p .plan-whole .ensures .fault)
@@ -64,12 +64,14 @@ returns-3 c =
     let w = planned k .plan-whole .ensures in
     let is = told k .enum-told .given .1 in
     filled-whole (tape k) (a .steps .now) (rowsSize (tape k)) (tapeRows (tape k) (a .steps .now)) (a .list .now) (planned-passed w is) (left .if1 .left ∙ size k)
-    (stored .put-rows .ensures ∙ planned-rows w is)
+    (stored .put-rows .ensures ∙ ap (rowsFrom _ 0) (k .records-in .ensures) ∙ planned-rows w is)
 
 pub list-tape-spec : {M : Type 1} → statement M
 list-tape-spec =
     tie.close
     (tie.spec
+    (λ c. search needs)
+    (λ c. search needs)
     (λ c κs. search needs)
     (λ c. search needs)
     (λ c. search needs)

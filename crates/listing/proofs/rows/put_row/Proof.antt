@@ -3,9 +3,9 @@ use mathlib.Core.Path.{ap, _∙_}
 use Prim.Native.Nat.{_+_, _-_, min}
 use native.Mathlib.Omega.{arith}
 use Rattle.profile.specs.Line.{numberAt}
-use Rattle.line.specs.Answers.{givenBetween}
 use Rattle.tapeplan.specs.Sheet.{measuredAt}
-use Rattle.listing.specs.Rows.{rowFrom}
+use Rattle.listing.specs.Parts.{rampBetween}
+use Rattle.listing.specs.Rows.{shownRow}
 use borrow.Author.Needs.{needs}
 use Rattle.listing.proofs.rows.put_row.Statement.{statement}
 use Rattle.listing.proofs.rows.put_row.Tie as tie
@@ -13,26 +13,27 @@ use Rattle.listing.proofs.rows.put_row.Tie as tie
 measured-at-requires : tie.Need-measured-at-requires
 measured-at-requires c κs = omega (arith, c .one-fewer .ensures)
 
-store-row-requires : tie.Need-store-row-requires
-store-row-requires c κs = c .before .before .before .before .before .before .before .before .before .before .before .before .before .before .pre .3
-
 returns : tie.Need-returns
 returns c =
     let stored = c .before .before in
-    let junction = stored .before .before in
-    let g = junction .before in
-    let b = g .before in
-    let here = b .before .before .before .before in
-    let last = here .before in
+    let block = stored .before .before in
+    let junction = block .before in
+    let ramp = junction .before in
+    let read = ramp .before .before .before in
+    let last = read .before in
     let a = last .before .before .before .before .before .before .args in
-    let k = a .k in
     let row = measuredAt (a .sheet .now) in
+    let entry = numberAt (a .plan .now) (a .k) in
+    let exit = numberAt (a .plan .now) (a .k + 1) in
+    let here = read .measured-at2 .ensures in
     stored .store-row .ensures
-    ∙ (λ i. rowFrom (g .given-between .ensures i) (here .measured-at2 .ensures i .numbers .cap) (junction .cap-beside .ensures i))
-    ∙ (λ i. rowFrom
-    (givenBetween (b .block-of .ensures i) (here .measured-at2 .ensures i .numbers) (numberAt (a .plan .now) k) (numberAt (a .plan .now) (k + 1)))
-    (row k .numbers .cap)
-    (min (min ((last .measured-at .ensures ∙ ap row (last .before .one-fewer .ensures)) i .numbers .cap) (here .measured-at2 .ensures i .numbers .cap)) (here .measured-at2 .ensures i .corner)))
+    ∙ (λ i. shownRow
+    (block .block-at .ensures i)
+    (here i)
+    entry
+    exit
+    ((ramp .ramp-between .ensures ∙ (λ j. rampBetween (here j .numbers) entry exit)) i)
+    ((junction .cap-beside .ensures ∙ (λ j. min (min ((last .measured-at .ensures ∙ ap row (last .before .one-fewer .ensures)) j .numbers .cap) (here j .numbers .cap)) (here j .corner))) i))
 
 pub put-row-spec : {M : Type 1} → statement M
 put-row-spec =
@@ -49,6 +50,6 @@ put-row-spec =
     (λ c κs. search needs)
     (λ c κs. search needs)
     (λ c κs. search needs)
-    store-row-requires
+    (λ c κs. search needs)
     (λ c. search needs)
     returns)

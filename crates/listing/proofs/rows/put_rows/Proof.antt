@@ -4,7 +4,6 @@ use Prim.Native.Nat.{ℕ, _+_, _-_, _*_, _≤_, _<_}
 use native.Mathlib.Omega.{arith}
 use lib.ListN.{length, take, drop, length-drop}
 use lib.Seq.{length-take-le, take-all}
-use Rattle.tape.specs.Tape.{recordsIn}
 use Rattle.listing.specs.Rows.{rowSize, rowsFrom, sheetRow}
 use Rattle.listing.proofs.TapeRows.{rows-none, rows-stored}
 use borrow.Author.Needs.{needs}
@@ -12,49 +11,47 @@ use Rattle.listing.proofs.rows.put_rows.Statement.{statement}
 use Rattle.listing.proofs.rows.put_rows.Tie as tie
 
 abbrev Inv-loop : tie.InvT-loop
-Inv-loop s sheet plan list₀ n k₀ list k =
-    (k ≤ n) × (n ≡ recordsIn s) × (length list ≡ rowSize * n) × (length list₀ ≡ rowSize * n) × (take (rowSize * k) list ≡ rowsFrom (sheetRow s sheet plan) 0 k)
+Inv-loop s sheet plan n list₀ k₀ list k =
+    (k ≤ n) × (length list ≡ rowSize * n) × (length list₀ ≡ rowSize * n) × (take (rowSize * k) list ≡ rowsFrom (sheetRow s sheet plan) 0 k)
 
 abbrev μ-loop : tie.MeasureT-loop
-μ-loop s sheet plan list₀ n k₀ list k = n - k
+μ-loop s sheet plan n list₀ k₀ list k = n - k
 
 loop-holds : tie.Need-loop-holds Inv-loop μ-loop
 loop-holds c =
-    let s = c .before .before .before .before .before in
+    let s = c .before .before .before .before in
     let a = s .args in
-    let size : length (a .list .now) ≡ rowSize * c .records-in .result = s .pre .3 ∙ ap (λ (n : ℕ). rowSize * n) (sym (c .records-in .ensures)) in
-    (search needs, c .records-in .ensures, size, size, rows-none (sheetRow (a .s .now) (a .sheet .now) (a .plan .now)) (a .list .now))
+    (search needs, s .pre .3, s .pre .3, rows-none (sheetRow (a .s .now) (a .sheet .now) (a .plan .now)) (a .list .now))
 
 put-row-requires : tie.Need-put-row-requires Inv-loop μ-loop
 put-row-requires c κs =
     let l = c .before .before in
-    let s = l .before .before .before .before .before .before in
+    let s = l .before .before .before .before .before in
     let k = l .loop .k in
-    let h : k < recordsIn (s .args .s .now) = search needs in
+    let h : k < s .args .n = search needs in
     let fits : 13 * k + 13 - 13 * k ≤ length (drop (13 * k) (l .loop .list)) = omega (arith, length-drop (13 * k) (l .loop .list), l .loop .inv) in
-    ((h, s .pre .0 k h), omega (arith, s .pre .1), omega (arith, s .pre .2), length-take-le (13 * k + 13 - 13 * k) (drop (13 * k) (l .loop .list)) fits ∙ omega arith)
+    (omega (arith, s .pre .0), omega (arith, s .pre .1), omega (arith, s .pre .2), length-take-le (13 * k + 13 - 13 * k) (drop (13 * k) (l .loop .list)) fits ∙ omega arith)
 
 loop-again : tie.Need-loop-again Inv-loop μ-loop
 loop-again c =
     let p = c .before .before in
     let l = p .before .before .before in
-    let a = l .before .before .before .before .before .before .args in
+    let a = l .before .before .before .before .before .args in
     let k = l .loop .k in
     let inv = l .loop .inv in (
       search needs,
-      inv .1,
       search needs,
-      inv .3,
-      rows-stored (sheetRow (a .s .now) (a .sheet .now) (a .plan .now)) (l .loop .list) (p .put-row .last .1 .1 .1 .1 .0) k (rowSize * k + rowSize - rowSize * k) (search needs) (inv .4)
+      inv .2,
+      rows-stored (sheetRow (a .s .now) (a .sheet .now) (a .plan .now)) (l .loop .list) (p .put-row .last .1 .1 .1 .1 .0) k (rowSize * k + rowSize - rowSize * k) (search needs) (inv .3)
           (p .put-row .ensures) (ap length (p .put-row .ensures)),
     )
 
 returns : tie.Need-returns Inv-loop μ-loop
 returns c =
     let l = c .before in
-    let a = l .before .before .before .before .before .before .args in
-    let all : l .loop .k ≡ recordsIn (a .s .now) = search needs in
-    sym (take-all (rowSize * l .loop .k) (l .loop .list) (omega arith)) ∙ l .loop .inv .4 ∙ ap (rowsFrom (sheetRow (a .s .now) (a .sheet .now) (a .plan .now)) 0) all
+    let a = l .before .before .before .before .before .args in
+    let all : l .loop .k ≡ a .n = search needs in
+    sym (take-all (rowSize * l .loop .k) (l .loop .list) (omega arith)) ∙ l .loop .inv .3 ∙ ap (rowsFrom (sheetRow (a .s .now) (a .sheet .now) (a .plan .now)) 0) all
 
 pub put-rows-spec : {M : Type 1} → statement M
 put-rows-spec =
@@ -62,7 +59,6 @@ put-rows-spec =
     (tie.spec
     Inv-loop
     μ-loop
-    (λ c κs. search needs)
     loop-holds
     (λ c. search needs)
     (λ c. search needs)

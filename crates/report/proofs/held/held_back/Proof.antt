@@ -21,7 +21,7 @@ module _ (c : tie.After-one-fewer) where
   told = c .before .before
 
   abbrev planned : tie.After-plan-whole
-  planned = told .before .before
+  planned = told .before .before .before .before
 
   abbrev start : tie.Start
   start = planned .before .before .before .before .before .before
@@ -44,12 +44,12 @@ store-held-requires c κs =
     let w = planned k .plan-whole .ensures in
     let few = planned-few w (told k .enum-told .given .1) in
     let size = c .before .before .before .if1 .left in
-    (omega (arith, w .sheet-after .sized, few, size, inner k), omega (arith, w .sized, few, size, inner k))
+    (omega (arith, w .room, few, size, inner k), omega (arith, w .sized, few, size, inner k))
 
 returns-2 : tie.Need-returns-2
 returns-2 c =
     let why = c .before .why .given in
-    let p = c .before .before .before in
+    let p = c .before .before .before .before .before in
     let a = p .before .before .before .before .before .before .args in
     filled-refused (a .s .now) (a .steps .now) (innerIn (a .s .now)) (heldList (a .s .now) (a .steps .now)) (a .list .now) (why .0 .0) (why .0 .1 .0) (sym (ap plannedMeans (why .1)) ∙ p .plan-whole .ensures .fault)
 
@@ -68,6 +68,8 @@ pub held-back-spec : {M : Type 1} → statement M
 held-back-spec =
     tie.close
     (tie.spec
+    (λ c. search needs)
+    (λ c. search needs)
     (λ c κs. search needs)
     (λ c. search needs)
     (λ c. search needs)

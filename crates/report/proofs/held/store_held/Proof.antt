@@ -5,7 +5,7 @@ use Prim.Native.Nat.{ℕ, _+_, _-_, _≤_}
 use Rattle.profile.specs.Line.{numberAt}
 use native.Mathlib.Omega.{arith}
 use lib.ListN.{length}
-use Rattle.tapeplan.proofs.Copies.{Copying, copy-all}
+use Rattle.report.proofs.Copies.{Copying, copy-all}
 use Rattle.report.specs.Counts.{listFrom}
 use Rattle.report.specs.Rows.{heldFrom, rowHeld}
 use Rattle.report.proofs.Rows.{held-between, list-length, list-next, over-all}

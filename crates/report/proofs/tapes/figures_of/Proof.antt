@@ -14,7 +14,7 @@ returns : tie.Need-returns
 unfolding tapeFigures
 returns c =
     let why = c .before .why .given in
-    let p = c .before .before .before in
+    let p = c .before .before .before .before .before in
     let a = p .before .before .before .before .before .args in
     figured-refused (wholeFault (a .s .now) (a .steps .now)) (figuresOf (a .s .now) (a .steps .now)) (why .0 .0) (why .0 .1 .0)
     (sym (ap plannedMeans (why .1)) ∙ p .plan-whole .ensures .fault)
@@ -25,14 +25,14 @@ module _ (c : tie.After-records-in) where
   told = c .before .before .before
 
   abbrev planned : tie.After-plan-whole
-  planned = told .before .before
+  planned = told .before .before .before .before
 
   abbrev start : tie.Start
   start = planned .before .before .before .before .before
 
 count-rows-requires : tie.Need-count-rows-requires
 count-rows-requires c κs =
-    subst (Countable _ _) (sym (c .records-in .ensures)) (planned-countable (planned c .plan-whole .ensures) (told c .enum-told .given .1) refl refl)
+    subst (Countable _ _) (sym (c .records-in .ensures)) (planned-countable (planned c .plan-whole .ensures) (told c .enum-told .given .1) refl)
 
 returns-2 : tie.Need-returns-2
 unfolding tapeFigures
@@ -48,6 +48,8 @@ pub figures-of-spec : {M : Type 1} → statement M
 figures-of-spec =
     tie.close
     (tie.spec
+    (λ c. search needs)
+    (λ c. search needs)
     (λ c κs. search needs)
     (λ c. search needs)
     (λ c. search needs)

@@ -1,4 +1,4 @@
--- `tapeplan::passes::brake_pass` meets its contract. The invariant: from junction k on the list holds the backward pass. The measure is k.
+-- `passes::brake_pass` meets its contract. The invariant: from junction k on the list holds the backward pass. The measure is k.
 use borrow.Author.Needs.{needs}
 use mathlib.Core.Path.{_≡_, sym}
 use native.Mathlib.Omega.{arith}
@@ -8,10 +8,10 @@ use lib.ListN.{length, set}
 use Rattle.profile.specs.Line.{numberAt}
 use Rattle.profile.specs.Passes.{Braked, brakeFrom}
 use Rattle.profile.proofs.InPlace.{store-end, store-brake}
-use Rattle.tapeplan.proofs.LentLaws.{line-length, line-cap, line-reach}
-use Rattle.tapeplan.specs.Lent.{lineOf}
-use Rattle.tapeplan.proofs.passes.brake_pass.Statement.{statement}
-use Rattle.tapeplan.proofs.passes.brake_pass.Tie as tie
+use Rattle.passes.proofs.LentLaws.{line-length, line-cap, line-reach}
+use Rattle.passes.specs.Lent.{lineOf}
+use Rattle.passes.proofs.brake_pass.Statement.{statement}
+use Rattle.passes.proofs.brake_pass.Tie as tie
 
 turn : (caps reaches list : List ℕ) (k v : ℕ) → length caps ≡ length reaches → length list ≡ length caps + 1 → 1 < k → k ≤ length caps
     → v ≡ brakeFrom (numberAt caps (k - 1)) (numberAt reaches (k - 1)) (numberAt list (k - 1 + 1))

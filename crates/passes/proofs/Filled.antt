@@ -8,7 +8,7 @@ use native.Mathlib.Omega.{arith}
 use lib.ListN.{length, take, set}
 use lib.Seq.{getD-set-same, getD-set-other}
 use Rattle.profile.specs.Line.{Span, capAt, reachAt, numberAt}
-use Rattle.tapeplan.specs.Lent.{lineOf}
+use Rattle.passes.specs.Lent.{lineOf}
 
 -- the first k numbers are f's
 abbrev pub Filled : List ℕ → (k : ℕ) → (ℕ → ℕ) → Type 0

@@ -6,7 +6,7 @@ use native.Mathlib.Omega.{arith}
 use native.Mathlib.Nat.{not-suc-le-zero, le-of-suc-le-suc}
 use lib.ListN.{length}
 use Rattle.profile.specs.Line.{capAt, reachAt, numberAt}
-use Rattle.tapeplan.specs.Lent.{lineOf}
+use Rattle.passes.specs.Lent.{lineOf}
 
 -- the number of blocks
 pub line-length : (cs rs : List ℕ) → length cs ≡ length rs → length (lineOf cs rs) ≡ length cs

@@ -1,0 +1,2 @@
+-- The line that two lists say.
+pub mod Lent
