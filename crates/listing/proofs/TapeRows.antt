@@ -90,6 +90,6 @@ module _ (s loaded sheet plan : List ℕ) (passed : wholeRefusal s loaded ≡ 0)
   rows-are = rows-same (sheetRow s sheet plan) (rowNumbers s loaded) 0 (recordsIn s) (λ k h. row-is k (omega arith))
 
 -- The same of a tape that is planned, from the promise of planning it.
-module _ {s loaded sheet before after : List ℕ} {r : TapePlanned} (w : WholeTape s loaded sheet before after r) (is : r ≡ Planned) where
+module _ {s loaded work sheet before after : List ℕ} {r : TapePlanned} (w : WholeTape s loaded work sheet before after r) (is : r ≡ Planned) where
   pub planned-rows : rowsFrom (sheetRow s sheet after) 0 (recordsIn s) ≡ tapeRows s loaded
   planned-rows = rows-are s loaded sheet after (planned-passed w is) (w .rows (planned-passed w is)) (planned-speeds w is)

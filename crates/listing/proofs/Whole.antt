@@ -45,7 +45,7 @@ unfolding partsOf
 parts-none listing sheet plan p zero h = refl
 parts-none listing sheet plan p (suc n) h = λ i. h p (omega arith) i ++ parts-none listing sheet plan (suc p) n (λ j l. h j (omega arith)) i
 
-module _ (s loaded sheet before plan : List ℕ) (listing : Listing) (from : ListingFrom s loaded sheet before plan listing) where
+module _ (s loaded lent sheet before plan : List ℕ) (listing : Listing) (from : ListingFrom s loaded lent sheet before plan listing) where
   -- the lines of n blocks from block k on
   abbrev lines : (k n : ℕ) → List ℕ
   lines k n = rowLines (listing .blocks) sheet plan k n
@@ -53,13 +53,13 @@ module _ (s loaded sheet before plan : List ℕ) (listing : Listing) (from : Lis
   -- a tape that was planned
   module _ (is : listing .answer ≡ Planned) where
     passed : wholeRefusal s loaded ≡ 0
-    passed = planned-passed (from .whole) is
+    passed = planned-passed (from .lent .whole) is
 
     own : tapeRefusal s ≡ 0
     own = whole-passed s loaded passed .0
 
     plan-same : (k : ℕ) → k ≤ recordsIn s → numberAt plan k ≡ numberAt (tapePlan s loaded) k
-    plan-same = planned-speeds (from .whole) is
+    plan-same = planned-speeds (from .lent .whole) is
 
     count : listing .blocks ≡ recordsIn s
     count = omega (arith, from .blocks, accepted-records s own)
@@ -89,7 +89,7 @@ module _ (s loaded sheet before plan : List ℕ) (listing : Listing) (from : Lis
         ap (lines 0) size
         ∙ lines-both (listing .blocks) sheet plan 0 (recordsIn s) (mostBlocks - recordsIn s)
         ∙ (λ i.
-        lines-accepted s loaded sheet plan own count (from .whole .rows passed) plan-same 0 (recordsIn s) (zero-add (recordsIn s)) i
+        lines-accepted s loaded sheet plan own count (from .lent .whole .rows passed) plan-same 0 (recordsIn s) (zero-add (recordsIn s)) i
         ++ lines-beyond (listing .blocks) sheet plan (0 + recordsIn s) (mostBlocks - recordsIn s) (omega (arith, count)) i)
         ∙ append-nil (linesFrom s loaded 0)
 
@@ -116,7 +116,7 @@ module _ (s loaded sheet before plan : List ℕ) (listing : Listing) (from : Lis
               arith,
               ap length (sym (part-is (suc p)) ∙ e),
               ap (λ (n : ℕ). length (lines (partBlocks * suc p) n)) size,
-              lines-some s loaded sheet plan own count (from .whole .rows passed) plan-same (partBlocks * suc p) (partBlocks - 1) g,
+              lines-some s loaded sheet plan own count (from .lent .whole .rows passed) plan-same (partBlocks * suc p) (partBlocks - 1) g,
             ))
 
         listed : recordsIn s ≤ partBlocks * suc p
@@ -136,7 +136,7 @@ module _ (s loaded sheet before plan : List ℕ) (listing : Listing) (from : Lis
     unfolding partsOf
     parts-refused =
         (λ i. line-is 0 i ++ parts-none listing sheet plan 1 (mostParts - 1) behind i)
-        ∙ append-nil (refusedAt (refusalNumber why) place) ∙ sym (listing-refused s loaded why place (sym (ap plannedMeans is) ∙ from .whole .fault))
+        ∙ append-nil (refusedAt (refusalNumber why) place) ∙ sym (listing-refused s loaded why place (sym (ap plannedMeans is) ∙ from .lent .whole .fault))
       where
         behind : (j : ℕ) → 1 ≤ j → partOf listing sheet plan j ≡ []
         behind zero h = absurd (omega arith)

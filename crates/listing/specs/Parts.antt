@@ -2,13 +2,13 @@
 use mathlib.Core.Path.{_≡_}
 use mathlib.Core.Bool.{cond}
 use mathlib.Core.List.{List, _∷_, [], _++_}
-use Prim.Native.Nat.{ℕ, zero, suc, _+_, _-_, _*_, _/_, min}
+use Prim.Native.Nat.{ℕ, zero, suc, _+_, _-_, _*_, _/_, _<_, min}
 use lib.Dec.{ltb}
 use Rattle.profile.specs.Line.{numberAt}
 use Rattle.display.specs.Display.{refusalNumber}
 use Rattle.tape.specs.Tape.{recordsIn}
 use Rattle.tape.specs.Answers.{mostBlocks}
-use Rattle.tapeplan.specs.Planned.{WholeTape}
+use Rattle.tapeplan.specs.Planned.{WholeTape, wholeRefusal}
 use Rattle.tapeplan.specs.Sheet.{measuredAt}
 use Rattle.tapeplan.specs.declared.Measured.{Measured}
 use Rattle.machine.specs.Numbers.{noRamp, rampOf, rampable}
@@ -84,7 +84,12 @@ unfoldable pub partsOf : Listing → (sheet plan : List ℕ) (p n : ℕ) → Lis
 partsOf listing sheet plan p zero = []
 partsOf listing sheet plan p (suc n) = partOf listing sheet plan p ++ partsOf listing sheet plan (suc p) n
 
+-- a tape planned into a lent sheet and a lent plan: if it is refused, the sheet too is what it was
+pub record LentTape (s loaded sheet sheet′ before after : List ℕ) (r : TapePlanned) : Type 0 where
+  pub whole : WholeTape s loaded sheet sheet′ before after r
+  pub kept : 0 < wholeRefusal s loaded → sheet′ ≡ sheet
+
 -- what is kept of a tape and loaded torque steps: the answer of planning it, the number of its blocks, and the sheet and the plan that were lent
-pub record ListingFrom (s loaded sheet before plan : List ℕ) (listing : Listing) : Type 0 where
-  pub whole : WholeTape s loaded sheet before plan (listing .answer)
+pub record ListingFrom (s loaded sheet sheet′ before after : List ℕ) (listing : Listing) : Type 0 where
+  pub lent : LentTape s loaded sheet sheet′ before after (listing .answer)
   pub blocks : listing .blocks ≡ min (recordsIn s) mostBlocks

@@ -14,7 +14,7 @@ ghost use Rattle.tape.specs.Answers.{mostBlocks};
 ghost use Rattle.tapeplan.specs.Planned.{mostJunctions};
 ghost use Rattle.tapeplan.specs.Sheet.{rowsIn, sheetSize};
 ghost use Rattle.listing.specs.Given.{WroteLine, mostGiven};
-ghost use Rattle.listing.specs.Parts.{ListingFrom, headIn, headerSize, lineOf, onlyFirst, partBlocks, partOf, partSize, plannedPart, rowLines};
+ghost use Rattle.listing.specs.Parts.{LentTape, ListingFrom, headIn, headerSize, lineOf, onlyFirst, partBlocks, partOf, partSize, plannedPart, rowLines};
 use crate::given::LINE;
 use crate::given::store_line;
 use arith::whole::fewer;
@@ -27,7 +27,8 @@ use tapeplan::TapePlanned;
 use tapeplan::sheet::SHEET;
 use tapeplan::sheet::measured_at;
 use tapeplan::whole::JUNCTIONS;
-use tapeplan::whole::plan_whole;
+use tapeplan::whole::check_whole;
+use tapeplan::whole::plan_on_work_sheet;
 use text::behind;
 use text::put_header;
 use text::put_refused_at;
@@ -123,6 +124,18 @@ fn put_part(blocks: usize, sheet: &[u64], plan: &[u64], p: usize, text: &mut [u8
     put_lines(blocks, sheet, plan, BLOCKS * p, text, at)
 }
 
+// Plans a tape into a lent sheet and a lent plan. On a refusal both hold what they held: the tape is checked before the planner
+// takes the sheet for its work.
+fn plan_lent(s: &[u8], steps: &[u8], sheet: &mut [u64], plan: &mut [u64]) -> TapePlanned
+    requires { ⌜ (length (now sheet) ≡ sheetSize) × (length (now plan) ≡ mostJunctions) ⌝ }
+    ensures { λ r. ⌜ LentTape (now (s .entry)) (now (steps .entry)) (now (sheet .entry)) (now (sheet .exit)) (now (plan .entry)) (now (plan .exit)) r ⌝ }
+{
+    match check_whole(s, steps) {
+        TapePlanned::Refused(why, place) => TapePlanned::Refused(why, place),
+        TapePlanned::Planned => plan_on_work_sheet(s, steps, sheet, plan),
+    }
+}
+
 // What a tape's listing is made from, besides its sheet and its plan. Only `of` makes one.
 pub struct Listing {
     // the answer of planning the tape
@@ -134,17 +147,16 @@ pub struct Listing {
 impl Listing {
     // Plans a tape with the torque steps that are loaded, eight bytes, or none for the built-in steps, and stores what is
     // measured of each block in the lent sheet, and the squared speed at each junction, (µm/s)², at the beginning of the lent
-    // plan. On a refusal the plan holds what it held, and the sheet anything. Each record is decoded and its numbers are worked
-    // out once.
+    // plan. On a refusal sheet and plan hold what they held. The numbers of each block are worked out once.
     pub fn of(
         s: &[u8],
         steps: &[u8],
         sheet: &mut [u64; SHEET],
         plan: &mut [u64; JUNCTIONS],
     ) -> Listing
-        ensures { λ r. ⌜ ListingFrom (now (s .entry)) (now (steps .entry)) (now (sheet .exit)) (now (plan .entry)) (now (plan .exit)) r ⌝ }
+        ensures { λ r. ⌜ ListingFrom (now (s .entry)) (now (steps .entry)) (now (sheet .entry)) (now (sheet .exit)) (now (plan .entry)) (now (plan .exit)) r ⌝ }
     {
-        let answer = plan_whole(s, steps, sheet, plan);
+        let answer = plan_lent(s, steps, sheet, plan);
         Listing {
             answer: answer,
             blocks: fewer(records_in(s), MOST_BLOCKS),
@@ -152,7 +164,7 @@ impl Listing {
     }
 
     // Stores part p, counted from 0, of the listing of the tape that this, the sheet and the plan were made from at the beginning
-    // of the lent text, whose other bytes stay as they are. Returns how many bytes it has: 0 behind the last part, and then of
+    // of the lent text, whose other bytes stay as they are. Returns how many bytes it has: 0 after the last part, and then of
     // every later one.
     pub fn part(
         self,

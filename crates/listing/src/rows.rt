@@ -18,7 +18,7 @@ use tapeplan::TapePlanned;
 use tapeplan::sheet::SHEET;
 use tapeplan::sheet::measured_at;
 use tapeplan::whole::JUNCTIONS;
-use tapeplan::whole::plan_whole;
+use tapeplan::whole::plan_on_work_sheet;
 
 // Numbers of a row: those of a block given out, its cap, and the cap of the junction where it begins, (µm/s)².
 pub const ROW: usize = 13;
@@ -90,7 +90,7 @@ pub fn list_tape(s: &[u8], steps: &[u8], list: &mut [u64]) -> TapePlanned
 {
     let mut sheet = [0u64; SHEET];
     let mut plan = [0u64; JUNCTIONS];
-    match plan_whole(s, steps, &mut sheet, &mut plan) {
+    match plan_on_work_sheet(s, steps, &mut sheet, &mut plan) {
         TapePlanned::Refused(why, place) => TapePlanned::Refused(why, place),
         TapePlanned::Planned => {
             let n = records_in(s);

@@ -126,7 +126,7 @@ module _ (s loaded sheet plan : List ℕ) (passed : wholeRefusal s loaded ≡ 0)
       }
 
 -- The same of a tape that is planned, from the promise of planning it.
-module _ {s loaded sheet before after : List ℕ} {r : TapePlanned} (w : WholeTape s loaded sheet before after r) (is : r ≡ Planned) where
+module _ {s loaded work sheet before after : List ℕ} {r : TapePlanned} (w : WholeTape s loaded work sheet before after r) (is : r ≡ Planned) where
   abbrev passed : wholeRefusal s loaded ≡ 0
   passed = planned-passed w is
 

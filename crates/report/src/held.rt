@@ -15,7 +15,7 @@ use tapeplan::TapePlanned;
 use tapeplan::sheet::SHEET;
 use tapeplan::sheet::measured_at;
 use tapeplan::whole::JUNCTIONS;
-use tapeplan::whole::plan_whole;
+use tapeplan::whole::plan_on_work_sheet;
 
 pub const FEED: u64 = 0;
 
@@ -69,7 +69,7 @@ pub fn held_back(s: &[u8], steps: &[u8], list: &mut [u64]) -> TapePlanned
 {
     let mut sheet = [0u64; SHEET];
     let mut plan = [0u64; JUNCTIONS];
-    match plan_whole(s, steps, &mut sheet, &mut plan) {
+    match plan_on_work_sheet(s, steps, &mut sheet, &mut plan) {
         TapePlanned::Refused(why, place) => TapePlanned::Refused(why, place),
         TapePlanned::Planned => {
             if list.len() != one_fewer(records_in(s)) {

@@ -9,7 +9,7 @@ use tape::records::records_in;
 use tapeplan::TapePlanned;
 use tapeplan::sheet::SHEET;
 use tapeplan::whole::JUNCTIONS;
-use tapeplan::whole::plan_whole;
+use tapeplan::whole::plan_on_work_sheet;
 
 // Figures of a tape.
 pub const FIGURES: usize = 7;
@@ -21,7 +21,7 @@ pub fn figures_of(s: &[u8], steps: &[u8]) -> Figured
 {
     let mut sheet = [0u64; SHEET];
     let mut plan = [0u64; JUNCTIONS];
-    match plan_whole(s, steps, &mut sheet, &mut plan) {
+    match plan_on_work_sheet(s, steps, &mut sheet, &mut plan) {
         TapePlanned::Refused(why, place) => Figured::Refused(why, place),
         TapePlanned::Planned => Figured::Figures(count_rows(&sheet, &plan, records_in(s))),
     }

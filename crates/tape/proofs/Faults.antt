@@ -11,10 +11,11 @@ use lib.Seq.{getD-drop}
 use Rattle.machine.specs.Checks.{blockRefusal}
 use Rattle.machine.specs.declared.Block.{Block}
 use Rattle.tape.specs.Tape.{blockAt, recordBytes, recordStart, recordAt, recordsIn, blocksFrom, tapeBlocks}
-use Rattle.display.specs.Display.{given, refused, Fault, _at_, _else_}
+use Rattle.display.specs.Display.{given, refused, refusalNumber, Fault, _at_, _else_}
 use Rattle.tape.specs.Answers.{recordReadRefusal, readRecord, readAt, faultFrom, headRefusal, tapeFault, tapeRefusal}
+use Rattle.display.specs.declared.Refusal.{Refusal}
 use Rattle.display.specs.declared.Refusal.the-variants as why
-use Rattle.display.proofs.Answers.{at-zero, above-zero, refused-is, refuses-by, then-first}
+use Rattle.display.proofs.Answers.{at-zero, above-zero, refusal-above, refused-is, refuses-by, then-first}
 use Rattle.tape.proofs.Answers.{too-few}
 use Rattle.tape.proofs.Checks.{record-long}
 use Rattle.tape.proofs.Trips.{record-taken}
@@ -99,13 +100,17 @@ module _ (s : List ℕ) where
       ∙ at-zero (faultFrom (suc (k + 1)) (drop (k + 1) (tapeBlocks s))) (blockRefusal (recordAt s k) at (k + 1)) e
       ∙ ap (λ (p : ℕ). faultFrom p (drop (k + 1) (tapeBlocks s))) (sym (add-one (k + 1)))
 
-  -- Record k is at fault; no record is.
+  -- Record k is at fault, and by which refusal; no record is.
   pub fault-at : {k : ℕ} → PassedBefore k → k < recordsIn s → 0 < blockRefusal (recordAt s k)
       → faultFrom 1 (tapeBlocks s) ≡ blockRefusal (recordAt s k) at (k + 1)
   unfolding faultFrom
   fault-at {k} p h l =
       p ∙ ap (faultFrom (k + 1)) (drop-blocks h)
       ∙ above-zero (faultFrom (suc (k + 1)) (drop (k + 1) (tapeBlocks s))) (blockRefusal (recordAt s k) at (k + 1)) l
+
+  pub refused-at : {k : ℕ} (r : Refusal) → PassedBefore k → k < recordsIn s → blockRefusal (recordAt s k) ≡ refusalNumber r
+      → faultFrom 1 (tapeBlocks s) ≡ refusalNumber r at (k + 1)
+  refused-at {k} r p h e = fault-at p h (rw e (refusal-above r)) ∙ ap (λ (n : ℕ). n at (k + 1)) e
 
   pub fault-none : {k : ℕ} → PassedBefore k → recordsIn s ≤ k → faultFrom 1 (tapeBlocks s) ≡ 0 at 0
   unfolding faultFrom

@@ -5,12 +5,13 @@ use crate::LIMITS_BYTES;
 use crate::LimitsRead;
 use crate::MOST_BYTES;
 use crate::RECORD_BYTES;
-use crate::RecordRead;
 use crate::TapeCheck;
 use crate::limits::read_limits;
-use crate::records::record_at;
+use crate::records::block_at;
 use crate::records::records_in;
+use display::Checked;
 use display::Refusal;
+use machine::check::check_block;
 
 // The limits of a whole tape, by the checks that come before its records: 10, 9, 1.
 pub fn read_head(s: &[u8]) -> LimitsRead
@@ -28,14 +29,14 @@ pub fn read_head(s: &[u8]) -> LimitsRead
     read_limits(s)
 }
 
-// Checks each record in turn. Each lies whole in the tape, so that reading one is never refused by 9.
+// Checks each record in turn. Each lies whole in the tape.
 pub fn check_records(s: &[u8]) -> TapeCheck
     ensures { λ r. ⌜ tapeMeans r ≡ checkRecords (now (s .entry)) ⌝ }
 {
     let n = records_in(s);
     let mut k: usize = 0;
     while k < n {
-        if let RecordRead::Refused(why) = record_at(s, k) {
+        if let Checked::Refused(why) = check_block(block_at(s, k)) {
             return TapeCheck::Refused(why, k + 1);
         }
         k += 1;

@@ -82,8 +82,8 @@ module _ (s loaded before : List ℕ) where
       let above : 0 < wholeFault s loaded .number = rw e (refusal-above r) in
       refused-by r p (above-zero _ (wholeFault s loaded) above ∙ e)
 
-  -- and with a sheet, which then holds anything
-  pub surveyed-refused : (r : Refusal) (p : ℕ) {sheet : List ℕ} → wholeFault s loaded ≡ refusalNumber r at p → SurveyedTape s loaded sheet before before (Refused r p)
+  -- and with a work sheet, which then holds anything
+  pub surveyed-refused : (r : Refusal) (p : ℕ) {work work′ : List ℕ} → wholeFault s loaded ≡ refusalNumber r at p → SurveyedTape s loaded work work′ before before (Refused r p)
   surveyed-refused r p e = record { planned = tape-refused r p e; measured = λ z. absurd (omega (arith, refusal-above r, sym z ∙ ap (λ (f : Fault). f .number) e)) }
 
   -- what is left to check of a tape that passes

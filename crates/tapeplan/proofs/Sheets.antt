@@ -8,7 +8,7 @@ use lib.ListN.{length, set}
 use lib.Seq.{sets, length-sets}
 use Rattle.profile.specs.Line.{numberAt}
 use Rattle.machine.specs.declared.Machine.{Machine}
-use Rattle.machine.proofs.Runs.{sets-at, sets-below, stores, stores-run, withRun}
+use Rattle.machine.proofs.Runs.{sets-above, sets-at, sets-below, stores, stores-run, withRun}
 use Rattle.tapeplan.specs.Sheet.{rowSize, rowsIn, measuredAt, measuredOf, Measures, Keeps}
 use Rattle.tapeplan.specs.declared.Measured.{Measured}
 
@@ -66,6 +66,7 @@ row-kept sheet k r h =
             corner = here 6 (rowSize * k + 6) refl i;
           };
       others = λ j l. row-same (sets sheet (rowSize * k) (rowOf r)) sheet j (λ i f g. sets-below (rowOf r) sheet (rowSize * k) i (omega arith));
+      later = λ i l. sets-above (rowOf r) sheet (rowSize * k) i (omega arith);
     }
     )
   where
@@ -74,16 +75,14 @@ row-kept sheet k r h =
     here j i e = sets-at sheet (rowSize * k) 0 (rowOf r) (rowSize * k) (omega arith) (omega arith) j i e
 
 pub row-left : (sheet : List ℕ) (k : ℕ) (r : Measured) → rowsIn sheet ≤ k → Keeps sheet k r sheet
-row-left sheet k r h = record { sized = refl; kept = λ z. absurd (omega arith); others = λ i l. refl }
+row-left sheet k r h = record { sized = refl; kept = λ z. absurd (omega arith); others = λ i l. refl; later = λ i l. refl }
 
 -- One block more is in the sheet.
-pub measures-next : (m : Machine) (s : List ℕ) {sheet after : List ℕ} (k : ℕ) {r : Measured} → Measures m s sheet k → Keeps sheet k r after
-    → r ≡ measuredOf m s k → Measures m s after (k + 1)
-measures-next m s {sheet} {after} k {r} v keeps e i h l = go (decLt i k)
+pub measures-next : (m : Machine) (s : List ℕ) {before sheet after : List ℕ} (k : ℕ) {r : Measured} → Measures m s before sheet k → Keeps sheet k r after
+    → r ≡ measuredOf m s k → Measures m s before after (k + 1)
+measures-next m s {before} {sheet} {after} k {r} v keeps e =
+    record { rows = λ i h l. go i h (rw (← keeps .sized) l) (decLt i k); later = λ i h. keeps .later i h ∙ v .later i (omega arith) }
   where
-    room : i < rowsIn sheet
-    room = rw (← keeps .sized) l
-
-    go : Dec (i < k) → measuredAt after i ≡ measuredOf m s i
-    go (yes g) = keeps .others i g ∙ v i g room
-    go (no g) = let here : i ≡ k = omega arith in rw here (keeps .kept (rw here at room) ∙ e)
+    go : (i : ℕ) → i < k + 1 → i < rowsIn sheet → Dec (i < k) → measuredAt after i ≡ measuredOf m s i
+    go i h room (yes g) = keeps .others i g ∙ v .rows i g room
+    go i h room (no g) = let here : i ≡ k = omega arith in rw here (keeps .kept (rw here at room) ∙ e)

@@ -77,9 +77,9 @@ module _ (m : Machine) (s : List ℕ) where
   reach-is k h = sym (spans-reach (recordAt s 0) m (tapeBlocks s) k (omega (arith, length-blocks s)) ∙ ap (reachOf m) (getD-blocks s (recordAt s 0) h))
 
   -- the first k records have passed, the lists have their caps and reaches, and the sheet has what is measured of them
-  pub record Surveying (sheet caps reaches : List ℕ) (before : Block) (known : Numbers) (k : ℕ) : Type 0 where
+  pub record Surveying (start sheet caps reaches : List ℕ) (before : Block) (known : Numbers) (k : ℕ) : Type 0 where
     pub passed : PassedBefore s k
-    pub measured : Measures m s sheet k
+    pub measured : Measures m s start sheet k
     pub capped : Filled caps k (capAt spans)
     pub reached : Filled reaches k (reachAt spans)
     pub previous : 0 < k → Known before known k
@@ -89,10 +89,10 @@ module _ (m : Machine) (s : List ℕ) where
   measuredBy b g corner = record { mark = b .mark; numbers = g .numbers; square = g .square; corner = corner }
 
   -- one record more
-  pub survey-next : {sheet sheet′ caps reaches : List ℕ} {before : Block} {known : Numbers} (k : ℕ) (b : Block) (g : Gauged) (corner cap : ℕ)
-      → Surveying sheet caps reaches before known k → k < recordsIn s → k < length caps → k < length reaches → b ≡ recordAt s k → blockRefusal b ≡ 0 → g ≡ gaugedOf m b
+  pub survey-next : {start sheet sheet′ caps reaches : List ℕ} {before : Block} {known : Numbers} (k : ℕ) (b : Block) (g : Gauged) (corner cap : ℕ)
+      → Surveying start sheet caps reaches before known k → k < recordsIn s → k < length caps → k < length reaches → b ≡ recordAt s k → blockRefusal b ≡ 0 → g ≡ gaugedOf m b
       → corner ≡ cond (eqb k 0) 0 (cornerBeside (m .limits .jump) before known b (g .numbers)) → Keeps sheet k (measuredBy b g corner) sheet′
-      → cap ≡ min (min (known .cap) (g .numbers .cap)) corner → Surveying sheet′ (set caps k cap) (set reaches k (g .numbers .reach)) b (g .numbers) (k + 1)
+      → cap ≡ min (min (known .cap) (g .numbers .cap)) corner → Surveying start sheet′ (set caps k cap) (set reaches k (g .numbers .reach)) b (g .numbers) (k + 1)
   unfolding numbersOf
   survey-next {caps} {reaches} {before} {known} k b g corner cap v h cs rs e p q f keeps d =
       let back : k ≡ k + 1 - 1 = omega arith in
@@ -108,7 +108,7 @@ module _ (m : Machine) (s : List ℕ) where
       }
 
   -- all of them
-  pub survey-all : {sheet caps reaches : List ℕ} {before : Block} {known : Numbers} {k : ℕ} → Surveying sheet caps reaches before known k → recordsIn s ≤ k → recordsIn s ≤ length caps → recordsIn s ≤ length reaches
+  pub survey-all : {start sheet caps reaches : List ℕ} {before : Block} {known : Numbers} {k : ℕ} → Surveying start sheet caps reaches before known k → recordsIn s ≤ k → recordsIn s ≤ length caps → recordsIn s ≤ length reaches
       → lineOf (take (recordsIn s) caps) (take (recordsIn s) reaches) ≡ spans
   survey-all {caps} {reaches} v h cs rs =
       let n : length spans ≡ recordsIn s = spans-length m (tapeBlocks s) ∙ length-blocks s in

@@ -8,14 +8,15 @@ use mathlib.Core.Bool.{cond}
 use lib.ListN.{length, take, drop, take-append-drop, List·getD-append}
 use lib.Seq.{length-front, length-take-le}
 use Rattle.profile.specs.Line.{numberAt}
-use Rattle.display.specs.Display.{Fault, _at_, byNumber}
-use Rattle.display.proofs.Answers.{at-zero, above-zero}
+use Rattle.display.specs.Display.{Fault, _at_, byNumber, refusalNumber}
+use Rattle.display.specs.declared.Refusal.{Refusal}
+use Rattle.display.proofs.Answers.{at-zero, above-zero, refusal-above}
 use Rattle.tape.specs.Answers.{mostBlocks}
 use Rattle.tape.specs.Tape.{recordsIn}
 use Rattle.tapeplan.specs.Planned.{SurveyedTape, WholeTape, mostJunctions, planFault, plannedMeans, tapePlan, wholeFault, wholeRefusal}
 use Rattle.tapeplan.specs.Sheet.{over, sheetSize}
 use Rattle.tapeplan.specs.declared.TapePlanned.{TapePlanned}
-use Rattle.tapeplan.specs.declared.TapePlanned.the-variants.{Planned}
+use Rattle.tapeplan.specs.declared.TapePlanned.the-variants.{Planned, Refused}
 use Rattle.tapeplan.proofs.Answered.{whole-faultless, whole-passed}
 use Rattle.tapeplan.proofs.Plans.{accepted-junctions, accepted-records}
 
@@ -72,9 +73,9 @@ module _ (s loaded : List ℕ) where
     pub lent-length : length (take n before) ≡ n
     lent-length = length-take-le n before (omega arith)
 
-    pub whole-planned : {answer : TapePlanned} {sheet planned : List ℕ} → length sheet ≡ sheetSize → SurveyedTape s loaded sheet (take n before) planned answer
-        → WholeTape s loaded sheet before (planned ++ drop n before) answer
-    whole-planned {sheet} {planned} room r =
+    pub whole-planned : {answer : TapePlanned} {work work′ planned : List ℕ} → length work′ ≡ sheetSize → SurveyedTape s loaded work work′ (take n before) planned answer
+        → WholeTape s loaded work work′ before (planned ++ drop n before) answer
+    whole-planned {work′} {planned} room r =
         let same : planFault s loaded (length (take n before)) ≡ wholeFault s loaded = ap (planFault s loaded) (lent-length ∙ count) ∙ fault-same in
         let list = ap (λ (j : ℕ). planned ++ drop j before) count
         ∙ plan-over before (r .planned .list ∙ (λ i. byNumber (same i .number) (tapePlan s loaded) (take (count i) before))) in
@@ -83,18 +84,33 @@ module _ (s loaded : List ℕ) where
           sized = ap length list ∙ over-sized before size;
           list = list;
           room = room;
-          rows = λ z k h. r .measured z k h (omega (arith, accepted-records s (whole-passed s loaded z .0)));
+          rows = λ z k h. r .measured z .rows k h (omega (arith, accepted-records s (whole-passed s loaded z .0)));
+          later = λ z. r .measured z .later;
         }
 
--- the plan stands at the beginning of such a list
+  -- a tape that its checks refuse leaves the list, and a sheet that nothing was stored in
+  pub whole-refused : (r : Refusal) (p : ℕ) {work before : List ℕ} → wholeFault s loaded ≡ refusalNumber r at p → length work ≡ sheetSize
+      → WholeTape s loaded work work before before (Refused r p)
+  whole-refused r p {before} e room =
+      let above : 0 < wholeFault s loaded .number = rw e (refusal-above r) in
+      record {
+        fault = sym e;
+        sized = refl;
+        list = sym (above-zero (over (tapePlan s loaded) before) before above);
+        room = room;
+        rows = λ z. absurd (omega arith);
+        later = λ z i h. refl;
+      }
+
+-- the plan is at the beginning of such a list
 pub plan-front : (s loaded before : List ℕ) {after : List ℕ} → wholeRefusal s loaded ≡ 0 → after ≡ byNumber (wholeRefusal s loaded) (over (tapePlan s loaded) before) before
     → (k : ℕ) → k ≤ recordsIn s → numberAt after k ≡ numberAt (tapePlan s loaded) k
 plan-front s loaded before passed e k h =
     ap (λ (t : List ℕ). numberAt t k) (e ∙ at-zero (over (tapePlan s loaded) before) before passed)
     ∙ List·getD-append (tapePlan s loaded) (drop (length (tapePlan s loaded)) before) 0 k (omega (arith, accepted-junctions s loaded (whole-passed s loaded passed .0)))
 
--- A tape that is planned so has passed its checks, its plan stands at the beginning, and it has no more records than any tape.
-module _ {s loaded sheet before after : List ℕ} {r : TapePlanned} (w : WholeTape s loaded sheet before after r) (is : r ≡ Planned) where
+-- A tape that is planned so has passed its checks, its plan is at the beginning, and it has no more records than any tape.
+module _ {s loaded work work′ before after : List ℕ} {r : TapePlanned} (w : WholeTape s loaded work work′ before after r) (is : r ≡ Planned) where
   pub planned-passed : wholeRefusal s loaded ≡ 0
   planned-passed = ap (λ (f : Fault). f .number) (sym (w .fault) ∙ ap plannedMeans is)
 

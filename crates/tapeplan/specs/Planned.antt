@@ -1,10 +1,10 @@
 -- The whole-tape planner of document 01: its refusals and the list that it leaves.
 use mathlib.Core.Path.{_≡_}
 use mathlib.Core.List.{List}
-use Prim.Native.Nat.{ℕ, _+_, _<_}
+use Prim.Native.Nat.{ℕ, _+_, _*_, _<_, _≤_}
 use lib.Dec.{eqb}
 use lib.ListN.{length}
-use Rattle.profile.specs.Line.{Span, Highest}
+use Rattle.profile.specs.Line.{Span, Highest, numberAt}
 use Rattle.profile.specs.Passes.{planOf}
 use mathlib.Core.Bool.{cond}
 use Rattle.display.specs.Display.{refusalNumber, Fault, Outcome, byNumber, orRefused, _then_, _at_, _else_}
@@ -13,7 +13,7 @@ use Rattle.machine.specs.Line.{spansOf}
 use Rattle.machine.specs.Torque.{machineOf, stepsRefusal}
 use Rattle.machine.specs.declared.Machine.{Machine}
 use Rattle.tape.specs.Tape.{recordsIn, tapeLimits, tapeBlocks}
-use Rattle.tapeplan.specs.Sheet.{Measures, measuredAt, measuredOf, over, sheetSize}
+use Rattle.tapeplan.specs.Sheet.{Measures, measuredAt, measuredOf, over, rowSize, sheetSize}
 use Rattle.tapeplan.specs.declared.TapePlanned.{TapePlanned}
 use Rattle.tapeplan.specs.declared.TapePlanned.the-variants.{Planned, Refused}
 
@@ -72,23 +72,25 @@ pub record PlannedTape (s loaded before after : List ℕ) (r : TapePlanned) : Ty
   pub list : after ≡ byNumber (planFault s loaded (length before) .number) (tapePlan s loaded) before
   pub highest : planFault s loaded (length before) .number ≡ 0 → Highest 0 (tapeSpans s loaded) after
 
--- the same, and a sheet has what is measured of the blocks of a tape that passes, as far as it has rows
-pub record SurveyedTape (s loaded sheet before after : List ℕ) (r : TapePlanned) : Type 0 where
+-- the same, and a work sheet before and after: it has what is measured of the blocks of a tape that passes, as far as it has rows
+pub record SurveyedTape (s loaded work work′ before after : List ℕ) (r : TapePlanned) : Type 0 where
   pub planned : PlannedTape s loaded before after r
-  pub measured : wholeRefusal s loaded ≡ 0 → Measures (tapeMachine s loaded) s sheet (recordsIn s)
+  pub measured : wholeRefusal s loaded ≡ 0 → Measures (tapeMachine s loaded) s work work′ (recordsIn s)
 
 -- junctions of the longest tape
 abbrev pub mostJunctions : ℕ
 mostJunctions = mostBlocks + 1
 
--- The same with a list that has room for the plan of any tape, so that 11 is never given: the plan stands at its beginning; of a tape that is refused all of
--- it is as it was. The sheet has a row for each block of a tape that is planned, and of one that is refused anything.
-pub record WholeTape (s loaded sheet before after : List ℕ) (r : TapePlanned) : Type 0 where
+-- The same with a list that has room for the plan of any tape, so that 11 is never given: the plan is at its beginning; if the tape is refused, all of
+-- the list is as it was. The work sheet, of full size, has a row for each block of a tape that is planned, and its other numbers are as they were. If the
+-- tape is refused, it has anything: it is work memory and no lent list.
+pub record WholeTape (s loaded work work′ before after : List ℕ) (r : TapePlanned) : Type 0 where
   pub fault : plannedMeans r ≡ wholeFault s loaded
   pub sized : length after ≡ length before
   pub list : after ≡ byNumber (wholeRefusal s loaded) (over (tapePlan s loaded) before) before
-  pub room : length sheet ≡ sheetSize
-  pub rows : wholeRefusal s loaded ≡ 0 → (k : ℕ) → k < recordsIn s → measuredAt sheet k ≡ measuredOf (tapeMachine s loaded) s k
+  pub room : length work′ ≡ sheetSize
+  pub rows : wholeRefusal s loaded ≡ 0 → (k : ℕ) → k < recordsIn s → measuredAt work′ k ≡ measuredOf (tapeMachine s loaded) s k
+  pub later : wholeRefusal s loaded ≡ 0 → (i : ℕ) → rowSize * recordsIn s ≤ i → numberAt work′ i ≡ numberAt work i
 
 -- Demand 3 of an accepted tape with accepted torque steps, from rest to rest, in a list one longer than its blocks: the tape is planned, the list
 -- is the plan of its blocks, so a lawful profile exists, the list is one, and no lawful profile is above it anywhere

@@ -1,7 +1,7 @@
 -- The sheet of a survey: what is measured of each block, as a row of numbers in a list.
 use mathlib.Core.Path.{_≡_}
 use mathlib.Core.List.{List, _++_}
-use Prim.Native.Nat.{ℕ, zero, suc, _+_, _*_, _/_, _<_}
+use Prim.Native.Nat.{ℕ, zero, suc, _+_, _*_, _/_, _<_, _≤_}
 use lib.ListN.{length, drop}
 use Rattle.profile.specs.Line.{numberAt}
 use Rattle.machine.specs.Caps.{cornerBetween}
@@ -53,15 +53,17 @@ measuredOf m s k =
       corner = cornerAt m s k;
     }
 
--- the first k blocks of a tape are in the sheet, as far as it has rows
-abbrev pub Measures : Machine → (s sheet : List ℕ) (k : ℕ) → Type 0
-Measures m s sheet k = (i : ℕ) → i < k → i < rowsIn sheet → measuredAt sheet i ≡ measuredOf m s i
+-- the first k blocks of a tape are in the sheet, as far as it has rows, and the numbers after their rows are what they were before
+pub record Measures (m : Machine) (s before sheet : List ℕ) (k : ℕ) : Type 0 where
+  pub rows : (i : ℕ) → i < k → i < rowsIn sheet → measuredAt sheet i ≡ measuredOf m s i
+  pub later : (i : ℕ) → rowSize * k ≤ i → numberAt sheet i ≡ numberAt before i
 
--- row k is stored where the sheet has one, and the rows before it stay
+-- row k is stored if the sheet has one, and all other numbers stay
 pub record Keeps (before : List ℕ) (k : ℕ) (row : Measured) (after : List ℕ) : Type 0 where
   pub sized : length after ≡ length before
   pub kept : k < rowsIn before → measuredAt after k ≡ row
   pub others : (i : ℕ) → i < k → measuredAt after i ≡ measuredAt before i
+  pub later : (i : ℕ) → rowSize * (k + 1) ≤ i → numberAt after i ≡ numberAt before i
 
 -- a list over the beginning of another
 abbrev pub over : (from to : List ℕ) → List ℕ

@@ -13,7 +13,7 @@ use Rattle.tapeplan.specs.Sheet.{Measures}
 
 -- the records are checked in turn; where all pass, the lists begin with the caps and the reaches of the blocks, and the sheet has
 -- what is measured of them
-pub record Surveyed (m : Machine) (s sheet caps reaches : List ℕ) (r : TapeCheck) : Type 0 where
+pub record Surveyed (m : Machine) (s before sheet caps reaches : List ℕ) (r : TapeCheck) : Type 0 where
   pub answer : tapeMeans r ≡ checkRecords s
   pub line : faultFrom 1 (tapeBlocks s) .number ≡ 0 → lineOf (take (recordsIn s) caps) (take (recordsIn s) reaches) ≡ spansOf m (tapeBlocks s)
-  pub measured : faultFrom 1 (tapeBlocks s) .number ≡ 0 → Measures m s sheet (recordsIn s)
+  pub measured : faultFrom 1 (tapeBlocks s) .number ≡ 0 → Measures m s before sheet (recordsIn s)

@@ -14,7 +14,7 @@ pub enum TapePlanned {
     Refused(Refusal, usize),
 }
 
-// What a sheet has of a block: its mark, feed and radius, its numbers, the square of its speed, (µm/s)², and the corner cap where
+// What a sheet has of a block: its mark, its numbers, the square of its speed, (µm/s)², and the corner cap where
 // it begins, as a number beside the block caps of that junction (`machine::corner::corner_beside`); 0 for the first block.
 pub struct Measured {
     pub mark: u64,

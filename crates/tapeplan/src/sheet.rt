@@ -1,5 +1,5 @@
-// The sheet of a survey: a row of nine numbers for each block, in a list that is lent. A block that has no row in it is not
-// kept, so that who needs no sheet lends an empty list.
+// The sheet of a survey: a row of `ROW` numbers for each block, in a list that is lent. A block that has no row in it is not
+// kept, so who needs no sheet lends an empty list.
 ghost use mathlib.Core.Path.{_≡_};
 ghost use Prim.Native.Nat.{_<_};
 ghost use Rattle.tapeplan.specs.Sheet.{Keeps, measuredAt, rowsIn};
@@ -7,13 +7,13 @@ use crate::Measured;
 use machine::Numbers;
 use tape::MOST_BLOCKS;
 
-// Numbers of a row: the block's mark, feed and radius, its length, acceleration, reach and cap, the square of its speed, and the
+// Numbers of a row: the block's mark, its length, acceleration, reach and cap, the square of its speed, and the
 // corner cap where it begins.
 pub const ROW: usize = 7;
 // Numbers of a sheet with a row for each block of the longest tape.
 pub const SHEET: usize = ROW * MOST_BLOCKS;
 
-// Keeps what is measured of block k as row k, where the sheet has one.
+// Keeps what is measured of block k as row k, if the sheet has one.
 pub(crate) fn keep(sheet: &mut [u64], k: usize, row: Measured)
     ensures { λ r. ⌜ Keeps (now (sheet .entry)) k row (now (sheet .exit)) ⌝ }
 {

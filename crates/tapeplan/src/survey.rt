@@ -8,14 +8,15 @@ ghost use Rattle.tapeplan.specs.Survey.{Surveyed};
 use crate::Measured;
 use crate::junctions::corner_of;
 use crate::sheet::keep;
+use display::Checked;
 use machine::Machine;
 use machine::Numbers;
 use machine::blocks::no_block;
+use machine::check::check_block;
 use machine::corner::cap_beside;
 use machine::measure::gauge;
-use tape::RecordRead;
 use tape::TapeCheck;
-use tape::records::record_at;
+use tape::records::block_at;
 use tape::records::records_in;
 
 // Checks each record in turn and fills the lists with the caps and the reaches of the blocks, and the sheet with a row for
@@ -28,7 +29,7 @@ pub fn survey(
     reaches: &mut [u64],
 ) -> TapeCheck
     requires { ⌜ LimitsBelow (m .limits) × (recordsIn (now s) ≤ length (now caps)) × (recordsIn (now s) ≤ length (now reaches)) ⌝ }
-    ensures { λ r. ⌜ Surveyed m (now (s .entry)) (now (sheet .exit)) (now (caps .exit)) (now (reaches .exit)) r ⌝ }
+    ensures { λ r. ⌜ Surveyed m (now (s .entry)) (now (sheet .entry)) (now (sheet .exit)) (now (caps .exit)) (now (reaches .exit)) r ⌝ }
 {
     let count = records_in(s);
     let mut before = no_block();
@@ -40,10 +41,10 @@ pub fn survey(
     };
     let mut k: usize = 0;
     while k < count {
-        let b = match record_at(s, k) {
-            RecordRead::Refused(why) => return TapeCheck::Refused(why, k + 1),
-            RecordRead::Read(b) => b,
-        };
+        let b = block_at(s, k);
+        if let Checked::Refused(why) = check_block(b) {
+            return TapeCheck::Refused(why, k + 1);
+        }
         let gauged = gauge(m, b);
         let n = gauged.numbers;
         let corner = corner_of(k, m.limits.jump, before, known, b, n);

@@ -44,10 +44,10 @@ pub fn check_whole(s: &[u8], steps: &[u8]) -> TapePlanned
     }
 }
 
-// Plans a tape as `plan_tape` does, and fills a sheet with a row for each of its blocks, as far as it has rows. Of a tape that is
-// refused the sheet holds anything.
-fn plan_surveyed(s: &[u8], steps: &[u8], sheet: &mut [u64], list: &mut [u64]) -> TapePlanned
-    ensures { λ r. ⌜ SurveyedTape (now (s .entry)) (now (steps .entry)) (now (sheet .exit)) (now (list .entry)) (now (list .exit)) r ⌝ }
+// Plans a tape as `plan_tape` does, and fills a work sheet with a row for each of its blocks, as far as it has rows. If the tape
+// is refused, the work sheet holds anything.
+fn plan_surveyed(s: &[u8], steps: &[u8], work: &mut [u64], list: &mut [u64]) -> TapePlanned
+    ensures { λ r. ⌜ SurveyedTape (now (s .entry)) (now (steps .entry)) (now (work .entry)) (now (work .exit)) (now (list .entry)) (now (list .exit)) r ⌝ }
 {
     let m = match machine_of(s, steps) {
         MachineAnswer::Refused(why) => return TapePlanned::Refused(why, 0),
@@ -55,7 +55,7 @@ fn plan_surveyed(s: &[u8], steps: &[u8], sheet: &mut [u64], list: &mut [u64]) ->
     };
     let mut caps = [0u64; MOST_BLOCKS];
     let mut reaches = [0u64; MOST_BLOCKS];
-    match survey(s, m, sheet, &mut caps, &mut reaches) {
+    match survey(s, m, work, &mut caps, &mut reaches) {
         TapeCheck::Refused(why, place) => TapePlanned::Refused(why, place),
         TapeCheck::Accepted(n) => {
             if list.len() != n + 1 {
@@ -67,15 +67,21 @@ fn plan_surveyed(s: &[u8], steps: &[u8], sheet: &mut [u64], list: &mut [u64]) ->
     }
 }
 
-// Plans a tape as `plan_tape` does, but into a list that has room for the plan of any tape, so that 11 is never given: the
-// plan stands at its beginning. What is measured of each block is stored, a row for each, at the beginning of the lent sheet.
-// On a refusal the plan holds what it held, and the sheet anything.
-pub fn plan_whole(s: &[u8], steps: &[u8], sheet: &mut [u64], plan: &mut [u64]) -> TapePlanned
-    requires { ⌜ (length (now sheet) ≡ sheetSize) × (length (now plan) ≡ mostJunctions) ⌝ }
-    ensures { λ r. ⌜ WholeTape (now (s .entry)) (now (steps .entry)) (now (sheet .exit)) (now (plan .entry)) (now (plan .exit)) r ⌝ }
+// Plans a tape as `plan_tape` does, but into a list that has room for the plan of any tape, so that 11 is never given: the plan
+// is at its beginning. What is measured of each block is stored, a row for each, at the beginning of the work sheet. On a
+// refusal the plan holds what it held, but the work sheet anything: it is work memory of the function that calls this one, or
+// that one has checked the tape. That only `listing` and `report` call it is tested (tests/run).
+pub fn plan_on_work_sheet(
+    s: &[u8],
+    steps: &[u8],
+    work: &mut [u64],
+    plan: &mut [u64],
+) -> TapePlanned
+    requires { ⌜ (length (now work) ≡ sheetSize) × (length (now plan) ≡ mostJunctions) ⌝ }
+    ensures { λ r. ⌜ WholeTape (now (s .entry)) (now (steps .entry)) (now (work .entry)) (now (work .exit)) (now (plan .entry)) (now (plan .exit)) r ⌝ }
 {
     let junctions = fewer(records_in(s), MOST_BLOCKS) + 1;
-    plan_surveyed(s, steps, sheet, &mut plan[..junctions])
+    plan_surveyed(s, steps, work, &mut plan[..junctions])
 }
 
 // Fills the lent list with the highest lawful profile of the tape's blocks from rest to rest, one number for each
@@ -84,6 +90,6 @@ pub fn plan_whole(s: &[u8], steps: &[u8], sheet: &mut [u64], plan: &mut [u64]) -
 pub fn plan_tape(s: &[u8], steps: &[u8], list: &mut [u64]) -> TapePlanned
     ensures { λ r. ⌜ PlannedTape (now (s .entry)) (now (steps .entry)) (now (list .entry)) (now (list .exit)) r ⌝ }
 {
-    let mut sheet = [0u64; 0];
-    plan_surveyed(s, steps, &mut sheet, list)
+    let mut none = [0u64; 0];
+    plan_surveyed(s, steps, &mut none, list)
 }

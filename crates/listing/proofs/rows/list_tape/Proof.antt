@@ -17,7 +17,7 @@ module _ (c : tie.After-records-in) where
   abbrev told : tie.After-enum-told
   told = c .before
 
-  abbrev planned : tie.After-plan-whole
+  abbrev planned : tie.After-plan-on-work-sheet
   planned = told .before .before .before .before
 
   abbrev start : tie.Start
@@ -30,19 +30,19 @@ module _ (c : tie.After-records-in) where
   size = ap (λ (n : ℕ). rowSize * n) (c .records-in .ensures)
 
 mul-if : tie.Need-mul-if1
-mul-if c = omega (arith, c .records-in .ensures, planned-few (planned c .plan-whole .ensures) (told c .enum-told .given .1))
+mul-if c = omega (arith, c .records-in .ensures, planned-few (planned c .plan-on-work-sheet .ensures) (told c .enum-told .given .1))
 
 returns : tie.Need-returns
 returns c =
     let k = c .before in
     let a = start k .args in
-    filled-unfit (tape k) (a .steps .now) (rowsSize (tape k)) (tapeRows (tape k) (a .steps .now)) (a .list .now) (planned-passed (planned k .plan-whole .ensures) (told k .enum-told .given .1))
+    filled-unfit (tape k) (a .steps .now) (rowsSize (tape k)) (tapeRows (tape k) (a .steps .now)) (a .list .now) (planned-passed (planned k .plan-on-work-sheet .ensures) (told k .enum-told .given .1))
     (λ e. c .if1 .taken (e ∙ sym (size k)))
 
 put-rows-requires : tie.Need-put-rows-requires
 put-rows-requires c κs =
     let k = c .before .before .before .before in
-    let w = planned k .plan-whole .ensures in
+    let w = planned k .plan-on-work-sheet .ensures in
     let is = told k .enum-told .given .1 in
     let few = planned-few w is in
     (omega (arith, k .records-in .ensures), omega (arith, w .room, few, k .records-in .ensures), omega (arith, w .sized, few, k .records-in .ensures), c .before .before .before .if1 .left)
@@ -53,7 +53,7 @@ returns-2 c =
     let p = c .before .before .before .before .before in
     let a = p .before .before .before .before .before .before .args in
     filled-refused (a .s .now) (a .steps .now) (rowsSize (a .s .now)) (tapeRows (a .s .now) (a .steps .now)) (a .list .now) (why .0 .0) (why .0 .1 .0)
-    (sym (ap plannedMeans (why .1)) ∙ p .plan-whole .ensures .fault)
+    (sym (ap plannedMeans (why .1)) ∙ p .plan-on-work-sheet .ensures .fault)
 
 returns-3 : tie.Need-returns-3
 returns-3 c =
@@ -61,7 +61,7 @@ returns-3 c =
     let left = stored .before .before .before .before in
     let k = left .before in
     let a = start k .args in
-    let w = planned k .plan-whole .ensures in
+    let w = planned k .plan-on-work-sheet .ensures in
     let is = told k .enum-told .given .1 in
     filled-whole (tape k) (a .steps .now) (rowsSize (tape k)) (tapeRows (tape k) (a .steps .now)) (a .list .now) (planned-passed w is) (left .if1 .left ∙ size k)
     (stored .put-rows .ensures ∙ ap (rowsFrom _ 0) (k .records-in .ensures) ∙ planned-rows w is)

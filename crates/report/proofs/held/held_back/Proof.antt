@@ -20,7 +20,7 @@ module _ (c : tie.After-one-fewer) where
   abbrev told : tie.After-enum-told
   told = c .before .before
 
-  abbrev planned : tie.After-plan-whole
+  abbrev planned : tie.After-plan-on-work-sheet
   planned = told .before .before .before .before
 
   abbrev start : tie.Start
@@ -36,12 +36,12 @@ returns : tie.Need-returns
 returns c =
     let k = c .before in
     let a = start k .args in
-    filled-unfit (tape k) (a .steps .now) (innerIn (tape k)) (heldList (tape k) (a .steps .now)) (a .list .now) (planned-passed (planned k .plan-whole .ensures) (told k .enum-told .given .1)) (λ e. c .if1 .taken (e ∙ sym (inner k)))
+    filled-unfit (tape k) (a .steps .now) (innerIn (tape k)) (heldList (tape k) (a .steps .now)) (a .list .now) (planned-passed (planned k .plan-on-work-sheet .ensures) (told k .enum-told .given .1)) (λ e. c .if1 .taken (e ∙ sym (inner k)))
 
 store-held-requires : tie.Need-store-held-requires
 store-held-requires c κs =
     let k = c .before .before .before .before in
-    let w = planned k .plan-whole .ensures in
+    let w = planned k .plan-on-work-sheet .ensures in
     let few = planned-few w (told k .enum-told .given .1) in
     let size = c .before .before .before .if1 .left in
     (omega (arith, w .room, few, size, inner k), omega (arith, w .sized, few, size, inner k))
@@ -51,7 +51,7 @@ returns-2 c =
     let why = c .before .why .given in
     let p = c .before .before .before .before .before in
     let a = p .before .before .before .before .before .before .args in
-    filled-refused (a .s .now) (a .steps .now) (innerIn (a .s .now)) (heldList (a .s .now) (a .steps .now)) (a .list .now) (why .0 .0) (why .0 .1 .0) (sym (ap plannedMeans (why .1)) ∙ p .plan-whole .ensures .fault)
+    filled-refused (a .s .now) (a .steps .now) (innerIn (a .s .now)) (heldList (a .s .now) (a .steps .now)) (a .list .now) (why .0 .0) (why .0 .1 .0) (sym (ap plannedMeans (why .1)) ∙ p .plan-on-work-sheet .ensures .fault)
 
 returns-3 : tie.Need-returns-3
 returns-3 c =
@@ -59,10 +59,10 @@ returns-3 c =
     let left = stored .before .before .before .before in
     let k = left .before in
     let a = start k .args in
-    let w = planned k .plan-whole .ensures in
+    let w = planned k .plan-on-work-sheet .ensures in
     let is = told k .enum-told .given .1 in
     let size = left .if1 .left ∙ inner k in
-    filled-whole (tape k) (a .steps .now) (innerIn (tape k)) (heldList (tape k) (a .steps .now)) (a .list .now) (planned-passed w is) size (stored .store-held .ensures ∙ ap (listFrom (rowHeld (planned k .plan-whole .last .1 .1 .0) (planned k .plan-whole .last .1 .1 .1 .0)) 0) size ∙ planned-held w is)
+    filled-whole (tape k) (a .steps .now) (innerIn (tape k)) (heldList (tape k) (a .steps .now)) (a .list .now) (planned-passed w is) size (stored .store-held .ensures ∙ ap (listFrom (rowHeld (planned k .plan-on-work-sheet .last .1 .1 .0) (planned k .plan-on-work-sheet .last .1 .1 .1 .0)) 0) size ∙ planned-held w is)
 
 pub held-back-spec : {M : Type 1} → statement M
 held-back-spec =

@@ -17,14 +17,14 @@ returns c =
     let p = c .before .before .before .before .before in
     let a = p .before .before .before .before .before .args in
     figured-refused (wholeFault (a .s .now) (a .steps .now)) (figuresOf (a .s .now) (a .steps .now)) (why .0 .0) (why .0 .1 .0)
-    (sym (ap plannedMeans (why .1)) ∙ p .plan-whole .ensures .fault)
+    (sym (ap plannedMeans (why .1)) ∙ p .plan-on-work-sheet .ensures .fault)
 
 -- a tape that is planned
 module _ (c : tie.After-records-in) where
   abbrev told : tie.After-enum-told
   told = c .before .before .before
 
-  abbrev planned : tie.After-plan-whole
+  abbrev planned : tie.After-plan-on-work-sheet
   planned = told .before .before .before .before
 
   abbrev start : tie.Start
@@ -32,13 +32,13 @@ module _ (c : tie.After-records-in) where
 
 count-rows-requires : tie.Need-count-rows-requires
 count-rows-requires c κs =
-    subst (Countable _ _) (sym (c .records-in .ensures)) (planned-countable (planned c .plan-whole .ensures) (told c .enum-told .given .1) refl)
+    subst (Countable _ _) (sym (c .records-in .ensures)) (planned-countable (planned c .plan-on-work-sheet .ensures) (told c .enum-told .given .1) refl)
 
 returns-2 : tie.Need-returns-2
 unfolding tapeFigures
 returns-2 c =
     let r = c .before in
-    let w = planned r .plan-whole .ensures in
+    let w = planned r .plan-on-work-sheet .ensures in
     let is = told r .enum-told .given .1 in
     let a = start r .args in
     figured-given (wholeFault (a .s .now) (a .steps .now)) (figuresOf (a .s .now) (a .steps .now)) (planned-passed w is)

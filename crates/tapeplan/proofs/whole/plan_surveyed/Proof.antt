@@ -99,8 +99,8 @@ module _ (c : tie.After-known-told4) where
   faultless : wholeFault s steps .number ≡ 0
   faultless = ap (λ (f : Fault). f .number) (whole-records s steps (made told .0 .0) (made told .0 .1)) ∙ passed .0
 
-  measured : Measures (tapeMachine s steps) s (surveyed .survey .last .1 .1 .0) (recordsIn s)
-  measured = subst (λ (m : Machine). Measures m s (surveyed .survey .last .1 .1 .0) (recordsIn s)) (made told .1) (surveyed .survey .ensures .measured (passed .0))
+  measured : Measures (tapeMachine s steps) s (start .args .work .now) (surveyed .survey .last .1 .1 .0) (recordsIn s)
+  measured = subst (λ (m : Machine). Measures m s (start .args .work .now) (surveyed .survey .last .1 .1 .0) (recordsIn s)) (made told .1) (surveyed .survey .ensures .measured (passed .0))
 
   few : n ≤ mostBlocks
   few = omega (arith, passed .1, head-records s (head-passed s (made told .0 .0)))

@@ -1,4 +1,4 @@
--- `tapeplan::whole::plan_whole`: the part of the list that is lent has a number for each junction of the tape. From `whole-planned`.
+-- `tapeplan::whole::plan_on_work_sheet`: the part of the list that is lent has a number for each junction of the tape. From `whole-planned`.
 use mathlib.Core.Path.{_≡_, sym, _∙_}
 use Prim.Native.Nat.{_+_, min}
 use native.Mathlib.Omega.{arith}
@@ -6,8 +6,8 @@ use Rattle.tape.specs.Tape.{recordsIn}
 use Rattle.tape.specs.Answers.{mostBlocks}
 use Rattle.tapeplan.proofs.Wholes.{lent-length, whole-planned}
 use borrow.Author.Needs.{needs}
-use Rattle.tapeplan.proofs.whole.plan_whole.Statement.{statement}
-use Rattle.tapeplan.proofs.whole.plan_whole.Tie as tie
+use Rattle.tapeplan.proofs.whole.plan_on_work_sheet.Statement.{statement}
+use Rattle.tapeplan.proofs.whole.plan_on_work_sheet.Tie as tie
 
 -- how many numbers are lent
 module _ (c : tie.After-fewer) where
@@ -30,8 +30,8 @@ returns c =
     let a = s fewer .args in
     whole-planned (a .s .now) (a .steps .now) (a .plan .now) (count fewer) (s fewer .pre .1) (planned .plan-surveyed .kept .1 .1 .0 ∙ s fewer .pre .0) (planned .plan-surveyed .ensures)
 
-pub plan-whole-spec : {M : Type 1} → statement M
-plan-whole-spec =
+pub plan-on-work-sheet-spec : {M : Type 1} → statement M
+plan-on-work-sheet-spec =
     tie.close
     (tie.spec
     (λ c κs. search needs)
