@@ -9,7 +9,7 @@ use Rattle.line.specs.Blocks.{freshLine, lineAfterAll}
 use Rattle.tape.specs.Tape.{limitsAt}
 use Rattle.display.specs.Display.{byNumber}
 use Rattle.tapeplan.specs.Planned.{tapeSpans, tapePlan, planFault, sizedFault}
-use Rattle.listing.specs.Rows.{rowsSize, tapeRows}
+use Rattle.tape_rows.specs.Rows.{rowsSize, tapeRows}
 use Rattle.replay.specs.Trace.{traceCalls}
 use Rattle.replay.specs.Replays.{replayRefusal, Demanded, Unchanged}
 

@@ -4,9 +4,9 @@ ghost use Rattle.fullerecru.specs.Plans.{ListLent, PlanLent, ReplayLent}
 use crate::numbers::planned_number;
 use crate::numbers::put_number;
 use display::refusal_number;
-use listing::rows::list_tape;
 use replay::Replayed;
 use replay::replay;
+use tape_rows::list_tape;
 use tapeplan::whole::plan_tape;
 
 // Plans a whole tape from rest to rest with the torque steps of `fullerecru_fresh`: the list gets the

@@ -8,6 +8,7 @@ use Rattle.machine.specs.Numbers.{numbersOf, rampOf, rampable, noRamp}
 use Rattle.machine.specs.declared.Block.{Block}
 use Rattle.machine.specs.declared.Machine.{Machine}
 use Rattle.machine.specs.declared.Numbers.{Numbers}
+use Rattle.machine.specs.declared.Ramp.{Ramp}
 use Rattle.line.specs.declared.Given.{Given}
 use Rattle.line.specs.declared.AddAnswer.{AddAnswer}
 use Rattle.line.specs.declared.AddAnswer.the-variants as add
@@ -64,7 +65,11 @@ givenOf m b entry exit =
       ramp = rampOf (numbersOf m b) entry exit;
     }
 
--- the same from a block's numbers, with a ramp of zeros where no ramp can be worked out
+-- the ramp between two squared speeds; zeros if no plan has them at the block's ends
+abbrev pub rampBetween : Numbers → (entry exit : ℕ) → Ramp
+rampBetween n entry exit = cond (rampable n entry exit) (rampOf n entry exit) noRamp
+
+-- a block given out from its numbers, with that ramp
 unfoldable pub givenBetween : Block → Numbers → (entry exit : ℕ) → Given
 givenBetween b n entry exit =
     record {
@@ -73,7 +78,7 @@ givenBetween b n entry exit =
       accel = n .accel;
       entry = entry;
       exit = exit;
-      ramp = cond (rampable n entry exit) (rampOf n entry exit) noRamp;
+      ramp = rampBetween n entry exit;
     }
 
 -- what stands for a block given out where there is none

@@ -1,10 +1,7 @@
 -- The laws of a tape's listing.
-pub mod GivenLines
 pub mod Plans
 pub mod Lines
 pub mod Answers
 pub mod Lengths
 pub mod Parts
-pub mod TapeRows
 pub mod Whole
-mod Cases

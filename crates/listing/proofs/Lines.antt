@@ -15,21 +15,22 @@ use lib.Seq.{getD-drop, drop-drop, drop-length}
 use Rattle.profile.specs.Line.{numberAt}
 use Rattle.machine.specs.declared.Block.{Block}
 use Rattle.machine.specs.declared.Ramp.{Ramp}
-use Rattle.line.specs.Answers.{givenOf}
+use Rattle.line.specs.Answers.{givenOf, rampBetween}
 use Rattle.line.specs.declared.Given.{Given}
 use Rattle.text.specs.Text.{decimal, row}
 use Rattle.text.specs.Store.{put, Stored}
 use Rattle.text.proofs.Lines.{length-line}
 use Rattle.text.proofs.Store.{put-none, put-next}
-use Rattle.listing.specs.Given.{givenText, listedOf, mostGiven, WroteLine}
+use Rattle.given_text.specs.Given.{givenText, listedOf, mostGiven, WroteLine}
 use Rattle.tape.specs.Tape.{recordAt, recordsIn, tapeBlocks}
 use Rattle.tape.specs.Answers.{tapeRefusal}
 use Rattle.tape.proofs.Faults.{length-blocks, drop-blocks}
 use Rattle.tapeplan.specs.Planned.{tapeMachine, tapePlan}
 use Rattle.tapeplan.specs.Sheet.{measuredAt, measuredOf}
 use Rattle.tapeplan.specs.declared.Measured.{Measured}
-use Rattle.listing.specs.Listing.{linesOf, rowOf}
-use Rattle.listing.specs.Parts.{lineNumbers, lineOf, partBlocks, rampBetween, rowLines}
+use Rattle.tape_rows.specs.Rows.{rowOf}
+use Rattle.listing.specs.Listing.{linesOf}
+use Rattle.listing.specs.Parts.{lineNumbers, lineOf, partBlocks, rowLines}
 use Rattle.listing.proofs.Plans.{row-between}
 
 -- the line of a row, from what is read of it

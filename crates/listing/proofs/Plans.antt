@@ -1,51 +1,26 @@
--- The lines of an accepted tape's blocks: each is the line of the block as it is listed, with the ramp between its two speeds, and up, cruise and down
--- make up its length. From the laws of an accepted tape's plan and of ramps.
-use mathlib.Core.Path.{_≡_, refl, ap}
+-- The line of what is measured of a block of an accepted tape is the line of the block as it is given out. From the law of its ramp.
+use mathlib.Core.Path.{_≡_, ap}
 use mathlib.Core.List.{List}
 use Prim.Native.Nat.{ℕ, _+_, _<_}
 use Rattle.profile.specs.Line.{numberAt}
-use Rattle.machine.specs.Meaning.{RampIs}
 use Rattle.machine.specs.Numbers.{numbersOf}
-use Rattle.machine.specs.declared.Block.{Block}
 use Rattle.machine.specs.declared.Ramp.{Ramp}
-use Rattle.machine.proofs.RampLaws.{ramp-is}
-use Rattle.machine.proofs.Rampables.{rampable-holds}
-use Rattle.line.specs.Answers.{givenOf}
+use Rattle.line.specs.Answers.{givenOf, rampBetween}
 use Rattle.text.specs.Text.{row}
 use Rattle.tape.specs.Tape.{recordAt, recordsIn}
 use Rattle.tape.specs.Answers.{tapeRefusal}
 use Rattle.tapeplan.specs.Planned.{tapeMachine, tapePlan}
 use Rattle.tapeplan.specs.Sheet.{measuredOf}
-use Rattle.tapeplan.proofs.Plans.{accepted-ramps}
-use Rattle.listing.specs.Given.{givenText}
-use Rattle.listing.specs.Listing.{rowOf}
-use Rattle.listing.specs.Parts.{lineNumbers, rampBetween}
+use Rattle.given_text.specs.Given.{givenText}
+use Rattle.tape_rows.specs.Rows.{rowOf}
+use Rattle.tape_rows.proofs.Plans.{ramp-between}
+use Rattle.listing.specs.Parts.{lineNumbers}
 
 module _ (s loaded : List ℕ) (passed : tapeRefusal s ≡ 0) where
-  abbrev block : ℕ → Block
-  block k = recordAt s k
-
   abbrev speed : ℕ → ℕ
   speed k = numberAt (tapePlan s loaded) k
 
-  -- between its two speeds a ramp exists
-  pub ramp-between : (k : ℕ) → k < recordsIn s
-      → rampBetween (numbersOf (tapeMachine s loaded) (block k)) (speed k) (speed (k + 1)) ≡ rowOf s loaded k .ramp
-  unfolding givenOf
-  ramp-between k h = rw (rampable-holds (numbersOf (tapeMachine s loaded) (block k)) (speed k) (speed (k + 1)) (accepted-ramps s loaded passed k h))
-
-  -- so the line of what is measured of it is the line of the block as it is listed
   pub row-between : (k : ℕ) → k < recordsIn s
-      → row (lineNumbers (measuredOf (tapeMachine s loaded) s k) (speed k) (speed (k + 1)) (rampBetween (numbersOf (tapeMachine s loaded) (block k)) (speed k) (speed (k + 1)))) ≡ givenText (rowOf s loaded k)
+      → row (lineNumbers (measuredOf (tapeMachine s loaded) s k) (speed k) (speed (k + 1)) (rampBetween (numbersOf (tapeMachine s loaded) (recordAt s k)) (speed k) (speed (k + 1)))) ≡ givenText (rowOf s loaded k)
   unfolding givenOf givenText
-  row-between k h = ap (λ (r : Ramp). row (lineNumbers (measuredOf (tapeMachine s loaded) s k) (speed k) (speed (k + 1)) r)) (ramp-between k h)
-
-  -- the ramp of each is the one between its speeds, up and down to the nearest
-  pub rows-ramp : (k : ℕ) → k < recordsIn s → RampIs (numbersOf (tapeMachine s loaded) (block k)) (speed k) (speed (k + 1)) (rowOf s loaded k .ramp)
-  unfolding givenOf numbersOf
-  rows-ramp k h = ramp-is (numbersOf (tapeMachine s loaded) (block k)) (speed k) (speed (k + 1)) (accepted-ramps s loaded passed k h) refl
-
-  -- up, cruise and down make up the block
-  pub rows-fill : (k : ℕ) → k < recordsIn s → rowOf s loaded k .ramp .up + rowOf s loaded k .ramp .cruise + rowOf s loaded k .ramp .down ≡ rowOf s loaded k .length
-  unfolding givenOf numbersOf
-  rows-fill k h = rows-ramp k h .fills
+  row-between k h = ap (λ (r : Ramp). row (lineNumbers (measuredOf (tapeMachine s loaded) s k) (speed k) (speed (k + 1)) r)) (ramp-between s loaded passed k h)

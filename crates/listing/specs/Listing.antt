@@ -1,15 +1,14 @@
 -- Document 01's listing of a whole tape, as bytes.
 use mathlib.Core.List.{List, _∷_, _++_, []}
-use Prim.Native.Nat.{ℕ, _+_}
+use Prim.Native.Nat.{ℕ}
 use lib.ListN.{drop}
 use Rattle.profile.specs.Line.{numberAt}
 use Rattle.machine.specs.declared.Block.{Block}
 use Rattle.machine.specs.declared.Machine.{Machine}
 use Rattle.line.specs.Answers.{givenOf}
-use Rattle.line.specs.declared.Given.{Given}
 use Rattle.text.specs.Text.{header, refusedAt}
-use Rattle.listing.specs.Given.{givenText}
-use Rattle.tape.specs.Tape.{recordAt, tapeBlocks}
+use Rattle.given_text.specs.Given.{givenText}
+use Rattle.tape.specs.Tape.{tapeBlocks}
 use Rattle.display.specs.Display.{byNumber}
 use Rattle.tapeplan.specs.Planned.{tapeMachine, tapePlan, wholePlace, wholeRefusal}
 
@@ -17,10 +16,6 @@ use Rattle.tapeplan.specs.Planned.{tapeMachine, tapePlan, wholePlace, wholeRefu
 unfoldable pub linesOf : Machine → List Block → (plan : List ℕ) → List ℕ
 linesOf m [] plan = []
 linesOf m (b ∷ rest) plan = givenText (givenOf m b (numberAt plan 0) (numberAt plan 1)) ++ linesOf m rest (drop 1 plan)
-
--- block k of an accepted tape as it is listed with loaded torque steps
-abbrev pub rowOf : (s loaded : List ℕ) (k : ℕ) → Given
-rowOf s loaded k = givenOf (tapeMachine s loaded) (recordAt s k) (numberAt (tapePlan s loaded) k) (numberAt (tapePlan s loaded) (k + 1))
 
 -- what is listed of an accepted tape
 abbrev pub acceptedText : (s loaded : List ℕ) → List ℕ

@@ -11,11 +11,10 @@ use Rattle.tape.specs.Answers.{mostBlocks}
 use Rattle.tapeplan.specs.Planned.{WholeTape, wholeRefusal}
 use Rattle.tapeplan.specs.Sheet.{measuredAt}
 use Rattle.tapeplan.specs.declared.Measured.{Measured}
-use Rattle.machine.specs.Numbers.{noRamp, rampOf, rampable}
-use Rattle.machine.specs.declared.Numbers.{Numbers}
+use Rattle.line.specs.Answers.{rampBetween}
 use Rattle.machine.specs.declared.Ramp.{Ramp}
 use Rattle.text.specs.Text.{header, refusedAt, row}
-use Rattle.listing.specs.Given.{mostGiven}
+use Rattle.given_text.specs.Given.{mostGiven}
 use Rattle.tapeplan.specs.declared.TapePlanned.{TapePlanned}
 use Rattle.tapeplan.specs.declared.TapePlanned.the-variants.{Planned, Refused}
 use Rattle.listing.specs.declared.Listing.{Listing}
@@ -33,10 +32,6 @@ headerSize = 49
 
 abbrev pub partSize : ℕ
 partSize = headerSize + partBlocks * mostGiven
-
--- the ramp between two speeds, zeros where no plan has them at the block's ends
-abbrev pub rampBetween : Numbers → (entry exit : ℕ) → Ramp
-rampBetween n entry exit = cond (rampable n entry exit) (rampOf n entry exit) noRamp
 
 -- the nine numbers of a row of a sheet between two speeds, in the header's order
 abbrev pub lineNumbers : Measured → (entry exit : ℕ) → Ramp → List ℕ

@@ -1,9 +1,5 @@
 // The listing of a whole tape as document 01 words it, for every bytes: a header and one line for each block, or the one
-// line of the refusal. A tape is planned once, and its text comes in parts, each stored in bytes that the caller lends. `rows`
-// has its blocks as numbers in place of text.
-pub mod given;
-pub mod rows;
-
+// line of the refusal. A tape is planned once, and its text comes in parts, each stored in bytes that the caller lends.
 ghost use mathlib.Core.Path.{_≡_};
 ghost use Prim.Native.Nat.{_+_, _<_, _≤_};
 ghost use lib.ListN.{length};
@@ -13,13 +9,13 @@ ghost use Rattle.display.specs.Display.{refusalNumber};
 ghost use Rattle.tape.specs.Answers.{mostBlocks};
 ghost use Rattle.tapeplan.specs.Planned.{mostJunctions};
 ghost use Rattle.tapeplan.specs.Sheet.{rowsIn, sheetSize};
-ghost use Rattle.listing.specs.Given.{WroteLine, mostGiven};
+ghost use Rattle.given_text.specs.Given.{WroteLine, mostGiven};
 ghost use Rattle.listing.specs.Parts.{LentTape, ListingFrom, headIn, headerSize, lineOf, onlyFirst, partBlocks, partOf, partSize, plannedPart, rowLines};
-use crate::given::LINE;
-use crate::given::store_line;
 use arith::whole::fewer;
 use display::Refusal;
 use display::refusal_number;
+use given_text::LINE;
+use given_text::store_line;
 use ramps::ramp_between;
 use tape::MOST_BLOCKS;
 use tape::records::records_in;

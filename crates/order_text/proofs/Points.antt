@@ -12,8 +12,8 @@ use Rattle.text.specs.Store.{placeBehind, Answered}
 use Rattle.text.specs.Text.{line}
 use Rattle.text.specs.declared.Put.{Put}
 use Rattle.text.proofs.Lines.{line-most}
-use Rattle.listing.specs.Given.{WroteLine}
-use Rattle.listing.proofs.GivenLines.{wrote}
+use Rattle.given_text.specs.Given.{WroteLine}
+use Rattle.given_text.proofs.GivenLines.{wrote}
 use Rattle.host.specs.State.{coordinateOf}
 use Rattle.host.specs.declared.orders.Point.{Point}
 use Rattle.host.proofs.Hosts.{coordinate-small}

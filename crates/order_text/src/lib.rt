@@ -9,7 +9,7 @@ ghost use Prim.Native.Nat.{_+_, _≤_};
 ghost use mathlib.Core.Path.{_≡_};
 ghost use lib.ListN.{length};
 ghost use Rattle.host.specs.State.{hostOf, positionOf};
-ghost use Rattle.listing.specs.Given.{WroteLine};
+ghost use Rattle.given_text.specs.Given.{WroteLine};
 ghost use Rattle.replay_text.specs.Chunks.{chunkCalls, lineBytes, textBytes};
 ghost use Rattle.replay_text.specs.Runs.{RanText};
 ghost use Rattle.order_text.specs.Texts.{pointText, recordedEvents};

@@ -12,10 +12,10 @@ use libc::PATH_MAX;
 use outputs::say;
 use outputs::say_error;
 use report::NUMBERS;
-use report::lines::LINE;
-use report::lines::put_all;
-use report::lines::put_header;
-use report::lines::put_tape;
+use report_text::LINE;
+use report_text::put_all;
+use report_text::put_header;
+use report_text::put_tape;
 use tape::MOST_BYTES;
 use text::behind;
 

@@ -1,9 +1,8 @@
 // A block given out with its ramp between its entry and exit squared speeds, and the peak alone.
 ghost use mathlib.Core.Path.{_≡_};
-ghost use mathlib.Core.Bool.{cond};
 ghost use Prim.Native.Nat.{_^_, _<_};
-ghost use Rattle.machine.specs.Numbers.{Rampable, noRamp, peakOf, rampOf, rampable, sized};
-ghost use Rattle.line.specs.Answers.{givenBetween};
+ghost use Rattle.machine.specs.Numbers.{Rampable, peakOf, rampOf, rampable, sized};
+ghost use Rattle.line.specs.Answers.{givenBetween, rampBetween};
 use arith::whole::less;
 use arith::whole::smaller;
 use line::Given;
@@ -59,10 +58,10 @@ fn is_rampable(n: Numbers, entry: u64, exit: u64) -> bool
 }
 
 // The ramp between two squared speeds, (µm/s)²; zeros for speeds that no plan has at a block's ends. This is the one door to a
-// ramp, for the crates that take both speeds from a plan of their own: `planner`, `listing` and `report`. A crate that does not
+// ramp, for the crates that take both speeds from a plan: `planner`, `tape_rows`, `listing` and `report`. A crate that does not
 // list `ramps` in crates.txt cannot name it, so it cannot make a ramp; that no other crate lists it is tested (tests/run).
 pub fn ramp_between(n: Numbers, entry: u64, exit: u64) -> Ramp
-    ensures { λ r. ⌜ r ≡ cond (rampable n entry exit) (rampOf n entry exit) noRamp ⌝ }
+    ensures { λ r. ⌜ r ≡ rampBetween n entry exit ⌝ }
 {
     if is_rampable(n, entry, exit) {
         return ramp(n, entry, exit);

@@ -21,7 +21,7 @@ use Rattle.tape.specs.Answers.{limitsReadRefusal, limitsFault}
 use Rattle.replay.specs.Rows.{eachOf}
 use Rattle.replay.specs.Trace.{callOf}
 use Rattle.text.specs.Text.{digitsOf, decimal, spaced, line, row, refusedWords}
-use Rattle.listing.specs.Given.{givenText}
+use Rattle.given_text.specs.Given.{givenText}
 use Rattle.replay_text.specs.Texts.{answerText, answersText, closingText, replayText}
 
 -- a block given out with nine numbers, each another

@@ -11,7 +11,7 @@ use Rattle.replay.specs.Replays.{planSize}
 use Rattle.replay.specs.Runs.{ToldPlan}
 use Rattle.replay.proofs.Runs as replay
 use Rattle.text.proofs.Store.{put-none, stored-next, take-front}
-use Rattle.listing.specs.Given.{WroteLine}
+use Rattle.given_text.specs.Given.{WroteLine}
 use Rattle.replay_text.specs.Chunks.{Recorded, textBytes}
 use Rattle.replay_text.specs.Texts.{closingText}
 use Rattle.replay_text.specs.Runs.{RanText, Ended, Closed}

@@ -3,7 +3,7 @@ use Prim.Native.Nat.{ℕ, _/_, min}
 use mathlib.Core.List.{List}
 use lib.ListN.{length}
 use Rattle.fields.specs.Records.{eachRecord}
-use Rattle.listing.specs.Given.{mostGiven}
+use Rattle.given_text.specs.Given.{mostGiven}
 
 -- what the records of an input are: bytes of one, how many of a chunk are run at most, the call that the bytes of one say, what a call does
 -- (`Step s c a s′`: on state s it is answered by a and leaves state s′), and the line of an answer

@@ -10,7 +10,7 @@ use Rattle.line.specs.Answers.{Answer, accepted, gave, refused}
 use Rattle.line.specs.Blocks.{Call, freshLine, lineAnswers, lineAfterAll, linePlan}
 use Rattle.planner.specs.Calls.{Called}
 use Rattle.text.specs.Text as text
-use Rattle.listing.specs.Given.{givenText}
+use Rattle.given_text.specs.Given.{givenText}
 use Rattle.tape.specs.Tape.{limitsBytes, limitsAt}
 use Rattle.display.specs.Display.{byNumber, _then_}
 use Rattle.tape.specs.Answers.{limitsReadRefusal}

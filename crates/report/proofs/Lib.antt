@@ -6,5 +6,4 @@ pub mod Copies
 pub mod Counts
 pub mod Rows
 pub mod Sums
-pub mod Written
 mod Cases

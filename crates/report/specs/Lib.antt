@@ -4,4 +4,3 @@ pub mod Held
 pub mod Figures
 pub mod Report
 pub mod Rows
-pub mod Text

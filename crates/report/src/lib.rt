@@ -3,7 +3,6 @@
 // caller lends; every content of them is answered. What the calls answer and leave is in specs/Figures.antt and Report.antt.
 mod counting;
 pub mod held;
-pub mod lines;
 pub mod tapes;
 
 ghost use mathlib.Core.Path.{_≡_};

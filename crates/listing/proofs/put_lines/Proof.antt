@@ -3,7 +3,7 @@ use mathlib.Core.Path.{_≡_, refl}
 use Prim.Native.Nat.{_+_, _-_, _<_, _≤_}
 use native.Mathlib.Omega.{arith}
 use lib.ListN.{length}
-use Rattle.listing.specs.Given.{mostGiven}
+use Rattle.given_text.specs.Given.{mostGiven}
 use Rattle.listing.specs.Parts.{partBlocks}
 use Rattle.listing.proofs.Lines.{Storing, storing-all, storing-next}
 use borrow.Author.Needs.{needs}

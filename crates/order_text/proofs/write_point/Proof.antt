@@ -1,7 +1,7 @@
 -- `order_text::write_point`: the patterns of the host's point, from `coordinate-number` and `point-wrote`.
 use mathlib.Core.Path.{ap, subst}
 use lib.ListN.{getD}
-use Rattle.listing.specs.Given.{WroteLine}
+use Rattle.given_text.specs.Given.{WroteLine}
 use Rattle.host.specs.declared.orders.Point.{Point}
 use Rattle.order_text.specs.Texts.{pointText}
 use Rattle.order_text.proofs.Points.{coordinate-number, point-wrote}

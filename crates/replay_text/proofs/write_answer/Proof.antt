@@ -1,7 +1,7 @@
 -- `replay_text::write_answer`: the line of each case of the answer has room.
 use native.Mathlib.Omega.{arith}
 use Rattle.replay_text.specs.Texts.{answerText}
-use Rattle.listing.proofs.GivenLines.{wrote}
+use Rattle.given_text.proofs.GivenLines.{wrote}
 use Rattle.replay_text.proofs.Lines.{refused-few}
 use borrow.Author.Needs.{needs}
 use Rattle.replay_text.proofs.write_answer.Statement.{statement}

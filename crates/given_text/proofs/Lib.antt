@@ -1,0 +1,2 @@
+-- The laws of the line of a block given out.
+pub mod GivenLines

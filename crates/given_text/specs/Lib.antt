@@ -1,0 +1,2 @@
+-- The line of a block given out.
+pub mod Given

@@ -1,0 +1,2 @@
+-- The laws of a report's text.
+pub mod Written

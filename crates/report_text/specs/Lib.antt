@@ -1,0 +1,2 @@
+-- The text of a report.
+pub mod Text

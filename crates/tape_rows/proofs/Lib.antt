@@ -1,0 +1,4 @@
+-- The laws of a tape's rows.
+pub mod Plans
+pub mod TapeRows
+mod Cases

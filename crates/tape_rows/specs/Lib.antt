@@ -1,0 +1,2 @@
+-- A tape's list of rows of numbers.
+pub mod Rows
