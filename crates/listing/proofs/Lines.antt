@@ -21,7 +21,7 @@ use Rattle.text.specs.Text.{decimal, row}
 use Rattle.text.specs.Store.{put, Stored}
 use Rattle.text.proofs.Lines.{length-line}
 use Rattle.text.proofs.Store.{put-none, put-next}
-use Rattle.given_text.specs.Given.{givenText, listedOf, mostGiven, WroteLine}
+use Rattle.given_text.specs.Given.{givenText, listedNumbers, listedOf, mostGiven, WroteLine}
 use Rattle.tape.specs.Tape.{recordAt, recordsIn, tapeBlocks}
 use Rattle.tape.specs.Answers.{tapeRefusal}
 use Rattle.tape.proofs.Faults.{length-blocks, drop-blocks}
@@ -30,17 +30,17 @@ use Rattle.tapeplan.specs.Sheet.{measuredAt, measuredOf}
 use Rattle.tapeplan.specs.declared.Measured.{Measured}
 use Rattle.tape_rows.specs.Rows.{rowOf}
 use Rattle.listing.specs.Listing.{linesOf}
-use Rattle.listing.specs.Parts.{lineNumbers, lineOf, partBlocks, rowLines}
+use Rattle.listing.specs.Parts.{lineOf, listedRow, partBlocks, rowLines}
 use Rattle.listing.proofs.Plans.{row-between}
 
 -- the line of a row, from what is read of it
 pub row-put : (sheet plan : List ℕ) (k : ℕ) {r : Measured} {ramp : Ramp} {text after : List ℕ} {at end : ℕ} → r ≡ measuredAt sheet k
     → ramp ≡ rampBetween (r .numbers) (numberAt plan k) (numberAt plan (k + 1))
-    → WroteLine (row (lineNumbers r (numberAt plan k) (numberAt plan (k + 1)) ramp)) text at end after → WroteLine (lineOf sheet plan k) text at end after
+    → WroteLine (row (listedNumbers (listedRow r (numberAt plan k) (numberAt plan (k + 1)) ramp))) text at end after → WroteLine (lineOf sheet plan k) text at end after
 row-put sheet plan k {text} {after} {at} {end} e f w =
     let entry = numberAt plan k in
     let exit = numberAt plan (k + 1) in
-    subst (λ (t : List ℕ). WroteLine t text at end after) (λ i. row (lineNumbers (e i) entry exit ((f ∙ (λ j. rampBetween (e j .numbers) entry exit)) i))) w
+    subst (λ (t : List ℕ). WroteLine t text at end after) (λ i. row (listedNumbers (listedRow (e i) entry exit ((f ∙ (λ j. rampBetween (e j .numbers) entry exit)) i)))) w
 
 module _ (blocks : ℕ) (sheet plan : List ℕ) where
   -- the line of block k, and none behind the last
@@ -140,7 +140,7 @@ module _ (s loaded : List ℕ) where
 -- a line has at least its line feed
 given-some : (g : Given) → 0 < length (givenText g)
 unfolding givenText row
-given-some g = omega (arith, length-line (decimal (g .block .mark)) (drop 1 (listedOf g)))
+given-some g = omega (arith, length-line (decimal (g .block .mark)) (drop 1 (listedNumbers (listedOf g))))
 
 -- and they are those of its rows, whatever follows them and its plan
 module _ (s loaded : List ℕ) {blocks : ℕ} (sheet plan : List ℕ) (passed : tapeRefusal s ≡ 0) (count : blocks ≡ recordsIn s)
@@ -150,7 +150,7 @@ module _ (s loaded : List ℕ) {blocks : ℕ} (sheet plan : List ℕ) (passed : 
   row-line k h =
       line-here blocks sheet plan k (omega (arith, count))
       ∙ (λ i.
-      row (lineNumbers (measured k h i) (same k (omega arith) i) (same (k + 1) (omega arith) i) (rampBetween (measured k h i .numbers) (same k (omega arith) i) (same (k + 1) (omega arith) i))))
+      row (listedNumbers (listedRow (measured k h i) (same k (omega arith) i) (same (k + 1) (omega arith) i) (rampBetween (measured k h i .numbers) (same k (omega arith) i) (same (k + 1) (omega arith) i)))))
       ∙ row-between s loaded passed k h
 
   -- there is a byte where there is a block

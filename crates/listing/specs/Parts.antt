@@ -14,7 +14,8 @@ use Rattle.tapeplan.specs.declared.Measured.{Measured}
 use Rattle.line.specs.Answers.{rampBetween}
 use Rattle.machine.specs.declared.Ramp.{Ramp}
 use Rattle.text.specs.Text.{header, refusedAt, row}
-use Rattle.given_text.specs.Given.{mostGiven}
+use Rattle.given_text.specs.Given.{listedNumbers, mostGiven}
+use Rattle.given_text.specs.declared.Listed.{Listed}
 use Rattle.tapeplan.specs.declared.TapePlanned.{TapePlanned}
 use Rattle.tapeplan.specs.declared.TapePlanned.the-variants.{Planned, Refused}
 use Rattle.listing.specs.declared.Listing.{Listing}
@@ -33,16 +34,16 @@ headerSize = 49
 abbrev pub partSize : ℕ
 partSize = headerSize + partBlocks * mostGiven
 
--- the nine numbers of a row of a sheet between two speeds, in the header's order
-abbrev pub lineNumbers : Measured → (entry exit : ℕ) → Ramp → List ℕ
-lineNumbers r entry exit ramp =
-    r .mark ∷ r .numbers .length ∷ r .numbers .accel ∷ entry ∷ ramp .peak ∷ exit ∷ ramp .up ∷ ramp .cruise ∷ ramp .down ∷ []
+-- what the line of a row of a sheet shows, between two speeds
+abbrev pub listedRow : Measured → (entry exit : ℕ) → Ramp → Listed
+listedRow r entry exit ramp =
+    record { mark = r .mark; length = r .numbers .length; accel = r .numbers .accel; entry = entry; exit = exit; ramp = ramp }
 
 -- the line of row k of a sheet, between the plan's numbers at the block's two ends
 abbrev pub lineOf : (sheet plan : List ℕ) (k : ℕ) → List ℕ
 lineOf sheet plan k =
     let r = measuredAt sheet k in
-    row (lineNumbers r (numberAt plan k) (numberAt plan (k + 1)) (rampBetween (r .numbers) (numberAt plan k) (numberAt plan (k + 1))))
+    row (listedNumbers (listedRow r (numberAt plan k) (numberAt plan (k + 1)) (rampBetween (r .numbers) (numberAt plan k) (numberAt plan (k + 1)))))
 
 -- the lines of n rows from row k on; there is none behind the last of the blocks
 unfoldable pub rowLines : (blocks : ℕ) (sheet plan : List ℕ) (k n : ℕ) → List ℕ

@@ -15,7 +15,8 @@ use arith::whole::fewer;
 use display::Refusal;
 use display::refusal_number;
 use given_text::LINE;
-use given_text::store_line;
+use given_text::Listed;
+use given_text::store_listed;
 use ramps::ramp_between;
 use tape::MOST_BLOCKS;
 use tape::records::records_in;
@@ -47,18 +48,18 @@ fn put_block(sheet: &[u64], plan: &[u64], k: usize, text: &mut [u8], at: usize) 
     let entry = plan[k];
     let exit = plan[k + 1];
     let ramp = ramp_between(n, entry, exit);
-    let numbers = [
-        row.mark,
-        n.length,
-        n.accel,
-        entry,
-        ramp.peak,
-        exit,
-        ramp.up,
-        ramp.cruise,
-        ramp.down,
-    ];
-    store_line(text, at, &numbers)
+    store_listed(
+        text,
+        at,
+        Listed {
+            mark: row.mark,
+            length: n.length,
+            accel: n.accel,
+            entry: entry,
+            exit: exit,
+            ramp: ramp,
+        },
+    )
 }
 
 // Stores the lines of 128 blocks from block `first` on, as far as there are so many.

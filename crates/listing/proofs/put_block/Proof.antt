@@ -7,10 +7,10 @@ use Rattle.listing.proofs.put_block.Tie as tie
 returns : tie.Need-returns
 returns c =
     let stored = c .before .before in
-    let made = stored .before .before .before in
+    let made = stored .before .before in
     let read = made .before .before .before .before in
     let args = read .before .before .before .before .args in
-    row-put (args .sheet .now) (args .plan .now) (args .k) (read .measured-at .ensures) (made .ramp-between .ensures) (stored .store-line .ensures)
+    row-put (args .sheet .now) (args .plan .now) (args .k) (read .measured-at .ensures) (made .ramp-between .ensures) (stored .store-listed .ensures)
 
 pub put-block-spec : {M : Type 1} → statement M
 put-block-spec =
@@ -23,7 +23,6 @@ put-block-spec =
     (λ c. search needs)
     (λ c. search needs)
     (λ c κs. search needs)
-    (λ c. search needs)
     (λ c κs. search needs)
     (λ c. search needs)
     returns)
