@@ -97,17 +97,15 @@ picture:
 REFERENCE = env CARGO_TARGET_DIR=$(CURDIR)/target/reference cargo run --quiet --release --offline \
     --manifest-path $(CURDIR)/tests/reference/Cargo.toml --bin
 
-# Cases of the programs machine_run and tape_run, the orders for planorders and the tapes for
-# planreport, and what these, planlist and planreplay must write.
+# Cases of the program calls_run, the orders for planorders and the tapes for planreport, and what
+# these, planlist and planreplay must write.
 REPORTED = crates/planreport
 
 #: expected   the stored cases and answers of the programs, made again by the independent implementation (10 s)
 expected:
 	@tools/needs 'make expected' bash cargo rustc
-	tools/whole crates/machine_run/stdin $(REFERENCE) machine_expect -- cases
-	tools/whole crates/machine_run/stdout $(REFERENCE) machine_expect -- answers < crates/machine_run/stdin
-	tools/whole crates/tape_run/stdin $(REFERENCE) tape_expect -- cases
-	tools/whole crates/tape_run/stdout $(REFERENCE) tape_expect -- answers < crates/tape_run/stdin
+	tools/whole crates/calls_run/stdin $(REFERENCE) calls_expect -- cases
+	tools/whole crates/calls_run/stdout $(REFERENCE) calls_expect -- answers < crates/calls_run/stdin
 	tools/whole crates/planlist/stdout $(REFERENCE) planlist_ref < crates/planlist/stdin
 	tools/whole crates/planreplay/stdout $(REFERENCE) planreplay_ref < crates/planreplay/stdin
 	tools/whole crates/planorders/stdin $(REFERENCE) maketape -- order-cases

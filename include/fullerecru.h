@@ -273,9 +273,9 @@ uint64_t fullerecru_version(void);
 #define FULLERECRU_BUILT_IN (const uint8_t *)"", (size_t)0
 #endif
 
-/* The planner: 64 places in memory of the caller, who keeps its 848 numbers (6,784 bytes) from call to
- * call. These functions alone write them, and only those of one version: what the numbers mean may
- * change with the minor version. */
+/* The planner: 64 places in memory of the caller, who keeps its FULLERECRU_NUMBERS numbers (6,784
+ * bytes) from call to call. These functions alone write them, and only those of one version: what the
+ * numbers mean may change with the minor version. */
 
 /* Makes a fresh planner: no block held, committed speed 0. The memory need not be initialised.
  *
@@ -306,7 +306,7 @@ uint64_t fullerecru_add(uint64_t memory[FULLERECRU_NUMBERS], int64_t x, int64_t 
  * rest with the last block held, so a block taken with none behind it ends at rest, whatever is added
  * later, and with few behind it may end slower than it could.
  *
- * moves: X, Y, Z, µm. numbers: enum fullerecru_given, the first eleven. The lengths run speeding
+ * moves: X, Y, Z, µm. numbers: enum fullerecru_given without the two caps. The lengths run speeding
  * up, at the peak and braking are the ramp, and add up to the length. The length is rounded down to
  * whole µm. The lengths of speeding up and of braking go to the nearest µm, an exact half down for
  * speeding up and up for braking; the part at the peak is what they leave of the length. So they are
@@ -415,12 +415,12 @@ uint64_t fullerecru_held_by(const uint8_t *tape, size_t count, const uint8_t *st
 /* Runs a trace, a list of calls, on a planner of its own. The trace is 24 bytes of limits as on
  * tape, then 28 bytes for each call: seven words of 32 bits, most significant byte first: kind (0
  * is a take, any other an add), moves X, Y, Z in two's complement, feed, radius, mark. A take's
- * other words play no part. steps: the torque steps. numbers, the size of answers, must be 15 for
- * each call; junctions, the size of plan, must be 65.
+ * other words play no part. steps: the torque steps. numbers, the size of answers, must be
+ * FULLERECRU_ROW for each call; junctions, the size of plan, must be FULLERECRU_PLAN.
  *
- * Each call gets a row of 15 in answers (enum fullerecru_answer): the number on the display; then,
- * of a block given out, moves X, Y, Z in two's complement of 32 bits and its eleven numbers; else 14
- * zeros.
+ * Each call gets a row of FULLERECRU_ROW in answers (enum fullerecru_answer): the number on the
+ * display; then, of a block given out, moves X, Y, Z in two's complement of 32 bits and its
+ * FULLERECRU_GIVEN numbers; else zeros.
  *
  * Refuses by 9, 1, 14, 11 in that order. Accepted, it writes answers, told[0] (the number of blocks
  * held at the end), and the first told[0] + 1 numbers of plan: the plan of the blocks still

@@ -6,7 +6,7 @@ import os
 from pathlib import Path
 from typing import Any, Dict, List, Optional, Tuple
 
-from .sizes import VERSION, VERSION_TEXT
+from .sizes import MOVES, RECORD, VERSION, VERSION_TEXT
 
 VARIABLE = "FULLERECRU_LIBRARY"
 FILE = "libfullerecru.so"
@@ -16,7 +16,7 @@ NUMBER, SIGNED, DOUBLE, SIZE = ctypes.c_uint64, ctypes.c_int64, ctypes.c_double,
 BYTES = ctypes.c_char_p  # lent to be read: a bytes object; to be written: a string buffer
 _NUMBERS, _MOVES = ctypes.POINTER(NUMBER), ctypes.POINTER(SIGNED)
 _DOUBLES = ctypes.POINTER(DOUBLE)
-_BLOCK = [SIGNED] * 3 + [NUMBER] * 3
+_BLOCK = [SIGNED] * MOVES + [NUMBER] * RECORD
 _TAPE = [BYTES, SIZE, BYTES, SIZE, _NUMBERS, SIZE, _NUMBERS]
 _ORDER = [_NUMBERS, _NUMBERS, _DOUBLES, _DOUBLES]
 

@@ -161,7 +161,7 @@ class Replayed:
 
 
 def _answer(row: List[int]) -> Answer:
-    """A row of 15 numbers as an answer. A block given out has a length; else there are zeros."""
+    """A row of ROW numbers as an answer. A block given out has a length; else there are zeros."""
     number, moves, numbers = row[0], row[1 : 1 + MOVES], row[1 + MOVES :]
     if number:
         return Answer(Refusal(number), None)

@@ -20,8 +20,11 @@ use fullerecru::planners::fullerecru_fresh;
 use fullerecru::planners::fullerecru_shown;
 use fullerecru::planners::fullerecru_take;
 use fullerecru::planners::fullerecru_told;
+use line::lists::GIVEN;
 use machine::Block;
 use machine::Limits;
+use machine::blocks::MOVES;
+use machine::lists::LIMITS;
 use planner::NUMBERS;
 use planner::Planner;
 use tapeplan::TapePlanned;
@@ -85,12 +88,12 @@ pub fn by_value(l: Limits, steps: &[u8], a: Block, b: Block, list: &mut [u64]) -
 // Through the functions for C: a move of x on each axis, twice, marks 0 and 1.
 pub fn for_c(
     memory: &mut [u64; NUMBERS],
-    limits: &[u64; 9],
+    limits: &[u64; LIMITS],
     steps: &[u8],
     x: i64,
     feed: u64,
-    moves: &mut [i64; 3],
-    numbers: &mut [u64; 11],
+    moves: &mut [i64; MOVES],
+    numbers: &mut [u64; GIVEN],
     list: &mut [u64],
 ) -> Returned
     ensures { λ r. ⌜ (r .made ≡ 0 → ExportedDemand3 (machineOf (limitsFrom (now (limits .entry))) (now (steps .entry))) (pairCalls (plainBlock x x x feed 0 0) (plainBlock x x x feed 0 1)) (seen.added (r .first) ∷ seen.added (r .second) ∷ seen.taken (r .third) (now (moves .entry)) (now (moves .exit)) (now (numbers .entry)) (now (numbers .exit)) ∷ []) (r .told) (now (list .entry)) (r .shown) (now (list .exit))) ⌝ }

@@ -9,8 +9,10 @@ use line::AddAnswer;
 use line::Given;
 use line::ShowAnswer;
 use line::TakeAnswer;
+use line::lists::GIVEN;
 use machine::Block;
 use machine::Ramp;
+use machine::blocks::MOVES;
 use machine::blocks::plain_block;
 use planner::NUMBERS;
 use planner::Planner;
@@ -184,8 +186,8 @@ fn demanded_for_c(memory: &mut [u64; NUMBERS], steps: &[u8], list: &mut [u64]) {
         1,
         2_000,
     ];
-    let mut moves = [0i64; 3];
-    let mut numbers = [0u64; 11];
+    let mut moves = [0i64; MOVES];
+    let mut numbers = [0u64; GIVEN];
     demands::for_c(
         memory,
         &limits,

@@ -8,6 +8,7 @@ ghost use lib.Ieee.{binary64, isNan, ofBits, ofInt, sub, toBits};
 ghost use lib.Ieee.Nearest.{closest};
 ghost use Rattle.doubles.specs.Readings.{FieldsOf, magnitudeOf, mostRead, readingOf};
 use arith::signed::signed_by;
+use arith::whole::smaller;
 
 // 1,000 times a double, to the nearest whole number, an exact half to the even one.
 pub enum Reading {
@@ -138,7 +139,7 @@ fn magnitude(exponent: u64, digits: u64) -> u64
         return PAST;
     }
     let n = nearest_shift((LEADING + digits) * TIMES, SMALLEST + 1 - exponent);
-    if PAST < n { PAST } else { n }
+    smaller(PAST, n)
 }
 
 // 1,000 times a double, exactly from its bits.

@@ -1,4 +1,4 @@
--- A point in a list of three doubles that C lends; and demand 3 of a host's orders as C sees them.
+-- A point in a list of doubles that C lends; and demand 3 of a host's orders as C sees them.
 use mathlib.Core.List.{List, _∷_, []}
 use mathlib.Core.Path.{_≡_}
 use Prim.Native.Nat.{ℕ}
@@ -18,7 +18,11 @@ use Rattle.host.specs.declared.orders.Event.the-variants as event
 use Rattle.host.specs.declared.orders.Point.{Point}
 use Rattle.fullerecru.specs.Planners.{TakenOut, Seen, SeenAll, added, taken}
 
--- the point of three coordinates
+-- coordinates of a point: X, Y, Z
+abbrev pub pointSize : ℕ
+pointSize = 3
+
+-- the point of its coordinates
 abbrev pub pointFrom : List Float → Point
 pointFrom list = record { x = getD list 0 nan; y = getD list 1 nan; z = getD list 2 nan }
 

@@ -13,6 +13,10 @@ use Rattle.tape_rows.specs.Rows.{rowsSize, tapeRows}
 use Rattle.replay.specs.Trace.{traceCalls}
 use Rattle.replay.specs.Replays.{replayRefusal, Demanded, Unchanged}
 
+-- numbers of a list for a count: of blocks, or the place of a record or a line, counted from 1
+abbrev pub countSize : ℕ
+countSize = 1
+
 -- A whole tape planned with loaded torque steps: the number on the display, the place of the record at fault, and the list, which is the plan
 -- from rest to rest that no lawful profile is above anywhere, or as it was.
 pub record PlanLent (tape loaded : List ℕ) (number : ℕ) (list list′ place′ : List ℕ) : Type 0 where

@@ -1,16 +1,21 @@
 // What the functions for C share: the numbers on the display of the planner's answers and of planning a tape, with its place, a
-// block's moves as three numbers, and a list of one number.
+// block's moves in a list, and a list for a count.
 ghost use mathlib.Core.List.{_∷_, []};
 ghost use mathlib.Core.Path.{_≡_};
 ghost use lib.ListN.{length};
 ghost use Rattle.line.specs.Answers.{addMeans, answerNumber, showMeans};
+ghost use Rattle.machine.specs.Labels.{movesSize};
 ghost use Rattle.tapeplan.specs.Planned.{plannedMeans};
 ghost use Rattle.fullerecru.specs.Moves.{blockMoves};
+ghost use Rattle.fullerecru.specs.Plans.{countSize};
 use display::refusal_number;
 use line::AddAnswer;
 use line::ShowAnswer;
 use machine::Block;
 use tapeplan::TapePlanned;
+
+// Numbers of a list for a count: of blocks, or the place of a record or a line, counted from 1.
+pub const COUNT: usize = 1;
 
 // The number on the display of an add's answer.
 pub fn added_number(a: AddAnswer) -> u64
@@ -34,7 +39,7 @@ pub fn shown_number(a: ShowAnswer) -> u64
 
 // Stores the moves of a block, µm.
 pub fn put_moves(b: Block, moves: &mut [i64])
-    requires { ⌜ length (now moves) ≡ 3 ⌝ }
+    requires { ⌜ length (now moves) ≡ movesSize ⌝ }
     ensures { λ r. ⌜ now (moves .exit) ≡ blockMoves b ⌝ }
 {
     let x = b.x;
@@ -45,9 +50,9 @@ pub fn put_moves(b: Block, moves: &mut [i64])
     moves[2] = z;
 }
 
-// Stores the only number of a list.
+// Stores a count in its list.
 pub fn put_number(list: &mut [u64], n: u64)
-    requires { ⌜ length (now list) ≡ 1 ⌝ }
+    requires { ⌜ length (now list) ≡ countSize ⌝ }
     ensures { λ r. ⌜ now (list .exit) ≡ n ∷ [] ⌝ }
 {
     list[0] = n;
@@ -55,7 +60,7 @@ pub fn put_number(list: &mut [u64], n: u64)
 
 // Stores the place of what planning a tape answers, and gives the number on the display.
 pub fn planned_number(a: TapePlanned, place: &mut [u64]) -> u64
-    requires { ⌜ length (now place) ≡ 1 ⌝ }
+    requires { ⌜ length (now place) ≡ countSize ⌝ }
     ensures { λ r. ⌜ (r ≡ plannedMeans a .number) × (now (place .exit) ≡ plannedMeans a .place ∷ []) ⌝ }
 {
     match a {

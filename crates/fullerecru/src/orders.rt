@@ -1,20 +1,23 @@
-// Orders of a host for C, on memory that the caller lends: the planner's, and the four numbers that keep the host. A point is
-// three doubles; targets and offsets are in mm.
+// Orders of a host for C, on memory that the caller lends: the planner's, and the numbers that keep the host. A point is `POINT`
+// doubles; targets and offsets are in mm.
 ghost use mathlib.Core.Path.{_≡_};
 ghost use lib.ListN.{length};
 ghost use Rattle.line.specs.Answers.{answerBy};
 ghost use Rattle.host.specs.Calls.{Ordered};
 ghost use Rattle.host.specs.State.{freshHost, hostNumbers, hostOf, positionOf};
 ghost use Rattle.host.specs.declared.orders.Order.the-variants.{Rapid, Feed, CurveChord};
-ghost use Rattle.fullerecru.specs.Orders.{coordinatesOf, pointFrom};
+ghost use Rattle.fullerecru.specs.Orders.{coordinatesOf, pointFrom, pointSize};
 use crate::numbers::added_number;
 use host::order;
 use host::orders::Order;
 use host::orders::Point;
 
-// The point of three coordinates.
+// Coordinates of a point: X, Y, Z.
+pub const POINT: usize = 3;
+
+// The point of its coordinates.
 fn point_from(list: &[f64]) -> Point
-    requires { ⌜ length (now list) ≡ 3 ⌝ }
+    requires { ⌜ length (now list) ≡ pointSize ⌝ }
     ensures { λ r. ⌜ r ≡ pointFrom (now (list .entry)) ⌝ }
 {
     Point {
@@ -26,7 +29,7 @@ fn point_from(list: &[f64]) -> Point
 
 // Stores the coordinates of a point.
 fn put_point(p: Point, list: &mut [f64])
-    requires { ⌜ length (now list) ≡ 3 ⌝ }
+    requires { ⌜ length (now list) ≡ pointSize ⌝ }
     ensures { λ r. ⌜ now (list .exit) ≡ coordinatesOf p ⌝ }
 {
     list[0] = p.x;
@@ -47,8 +50,8 @@ pub extern "C" fn fullerecru_host_fresh(host: &mut [u64; host::NUMBERS])
 pub extern "C" fn fullerecru_rapid(
     memory: &mut [u64; planner::NUMBERS],
     host: &mut [u64; host::NUMBERS],
-    target: &[f64; 3],
-    offset: &[f64; 3],
+    target: &[f64; POINT],
+    offset: &[f64; POINT],
 ) -> u64
     ensures { λ r. ⌜ Ordered (now (memory .entry)) (now (host .entry)) (Rapid (pointFrom (now (target .entry)))) (pointFrom (now (offset .entry))) (answerBy r) (now (memory .exit)) (now (host .exit)) ⌝ }
 {
@@ -61,8 +64,8 @@ pub extern "C" fn fullerecru_rapid(
 pub extern "C" fn fullerecru_feed(
     memory: &mut [u64; planner::NUMBERS],
     host: &mut [u64; host::NUMBERS],
-    target: &[f64; 3],
-    offset: &[f64; 3],
+    target: &[f64; POINT],
+    offset: &[f64; POINT],
     speed: f64,
 ) -> u64
     ensures { λ r. ⌜ Ordered (now (memory .entry)) (now (host .entry)) (Feed (pointFrom (now (target .entry))) speed) (pointFrom (now (offset .entry))) (answerBy r) (now (memory .exit)) (now (host .exit)) ⌝ }
@@ -76,8 +79,8 @@ pub extern "C" fn fullerecru_feed(
 pub extern "C" fn fullerecru_curve_chord(
     memory: &mut [u64; planner::NUMBERS],
     host: &mut [u64; host::NUMBERS],
-    target: &[f64; 3],
-    offset: &[f64; 3],
+    target: &[f64; POINT],
+    offset: &[f64; POINT],
     speed: f64,
     radius: f64,
 ) -> u64
@@ -89,7 +92,7 @@ pub extern "C" fn fullerecru_curve_chord(
 
 // Stores the host's point, the last accepted order's rounded one, in µm.
 #[no_mangle]
-pub extern "C" fn fullerecru_position(host: &[u64; host::NUMBERS], point: &mut [f64; 3])
+pub extern "C" fn fullerecru_position(host: &[u64; host::NUMBERS], point: &mut [f64; POINT])
     ensures { λ r. ⌜ now (point .exit) ≡ coordinatesOf (positionOf (hostOf (now (host .entry)))) ⌝ }
 {
     put_point(host::position(host), point);

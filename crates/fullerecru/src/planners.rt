@@ -2,9 +2,9 @@
 // the planner's.
 ghost use mathlib.Core.Path.{_≡_};
 ghost use lib.ListN.{length};
-ghost use Rattle.machine.specs.Labels.{plainBlock};
+ghost use Rattle.machine.specs.Labels.{movesSize, plainBlock};
 ghost use Rattle.machine.specs.Lists.{limitsFrom};
-ghost use Rattle.line.specs.Answers.{answerBy, givenNumbers};
+ghost use Rattle.line.specs.Answers.{answerBy, givenNumbers, givenSize};
 ghost use Rattle.line.specs.Blocks as blocks;
 ghost use Rattle.planner.specs.Calls.{Called, Freshened, Showed, Told};
 ghost use Rattle.fullerecru.specs.Moves.{Stored};
@@ -16,8 +16,11 @@ use display::checked_number;
 use display::refusal_number;
 use line::Given;
 use line::TakeAnswer;
+use line::lists::GIVEN;
 use line::lists::store_given_numbers;
+use machine::blocks::MOVES;
 use machine::blocks::plain_block;
+use machine::lists::LIMITS;
 use machine::lists::limits_from;
 use planner::NUMBERS;
 use planner::add;
@@ -28,7 +31,7 @@ use planner::told;
 
 // Stores a block given out in the lent lists.
 fn hand_out(g: Given, moves: &mut [i64], numbers: &mut [u64])
-    requires { ⌜ (length (now moves) ≡ 3) × (length (now numbers) ≡ 11) ⌝ }
+    requires { ⌜ (length (now moves) ≡ movesSize) × (length (now numbers) ≡ givenSize) ⌝ }
     ensures { λ r. ⌜ Stored (g .block) (givenNumbers g) (now (moves .exit)) (now (numbers .exit)) ⌝ }
 {
     let b = g.block;
@@ -36,14 +39,14 @@ fn hand_out(g: Given, moves: &mut [i64], numbers: &mut [u64])
     store_given_numbers(g, numbers);
 }
 
-// Makes a fresh planner of nine limits: accelerations x, y, z, µm/s²; speeds x, y, z, µm/s; corner
+// Makes a fresh planner of limits: accelerations x, y, z, µm/s²; speeds x, y, z, µm/s; corner
 // jump, µm/s; chord tolerance, µm; tick, microseconds; and of the torque steps that are loaded, handed
 // over as a pointer and their number: eight percentages, a byte each, or none for the built-in steps.
 // Refuses by 1, then by 14.
 #[no_mangle]
 pub extern "C" fn fullerecru_fresh(
     memory: &mut [u64; NUMBERS],
-    limits: &[u64; 9],
+    limits: &[u64; LIMITS],
     steps: &[u8],
 ) -> u64
     ensures { λ r. ⌜ Freshened (now (memory .entry)) (limitsFrom (now (limits .entry))) (now (steps .entry)) r (now (memory .exit)) ⌝ }
@@ -73,8 +76,8 @@ pub extern "C" fn fullerecru_add(
 #[no_mangle]
 pub extern "C" fn fullerecru_take(
     memory: &mut [u64; NUMBERS],
-    moves: &mut [i64; 3],
-    numbers: &mut [u64; 11],
+    moves: &mut [i64; MOVES],
+    numbers: &mut [u64; GIVEN],
 ) -> u64
     ensures { λ r. ⌜ TakenOut (now (memory .entry)) r (now (memory .exit)) (now (moves .entry)) (now (moves .exit)) (now (numbers .entry)) (now (numbers .exit)) ⌝ }
 {

@@ -1,8 +1,9 @@
-// What held tapes back, for C: a report over up to 100 tapes in eight numbers that the caller lends, and what held each inner
+// What held tapes back, for C: a report over up to 100 tapes in numbers that the caller lends, and what held each inner
 // junction of one tape. Bytes and lists are handed over as a pointer and their number.
 ghost use mathlib.Core.Path.{_≡_};
 ghost use Rattle.report.specs.Report.{freshReport};
 ghost use Rattle.fullerecru.specs.Reports.{HeldLent, ReportLent};
+use crate::numbers::COUNT;
 use crate::numbers::planned_number;
 use crate::numbers::put_number;
 use display::refusal_number;
@@ -30,7 +31,7 @@ pub extern "C" fn fullerecru_report_add(
     tape: &[u8],
     steps: &[u8],
     figures: &mut [u64; FIGURES],
-    place: &mut [u64; 1],
+    place: &mut [u64; COUNT],
 ) -> u64
     ensures { λ r. ⌜ ReportLent (now (report .entry)) (now (tape .entry)) (now (steps .entry)) r (now (report .exit)) (now (figures .entry)) (now (figures .exit)) (now (place .exit)) ⌝ }
 {
@@ -55,7 +56,7 @@ pub extern "C" fn fullerecru_held_by(
     tape: &[u8],
     steps: &[u8],
     list: &mut [u64],
-    place: &mut [u64; 1],
+    place: &mut [u64; COUNT],
 ) -> u64
     ensures { λ r. ⌜ HeldLent (now (tape .entry)) (now (steps .entry)) r (now (list .entry)) (now (list .exit)) (now (place .exit)) ⌝ }
 {

@@ -1,9 +1,9 @@
 -- What is answered, as document 01's numbers and values.
 use mathlib.Core.Bool.{cond}
 use mathlib.Core.List.{List, _∷_, []}
-use Prim.Native.Nat.{ℕ, zero, suc}
+use Prim.Native.Nat.{ℕ, zero, suc, _+_}
 use Rattle.display.specs.Display.{refusalNumber}
-use Rattle.machine.specs.Labels.{noBlock}
+use Rattle.machine.specs.Labels.{fieldsSize, noBlock}
 use Rattle.machine.specs.Numbers.{numbersOf, rampOf, rampable, noRamp}
 use Rattle.machine.specs.declared.Block.{Block}
 use Rattle.machine.specs.declared.Machine.{Machine}
@@ -85,7 +85,11 @@ givenBetween b n entry exit =
 abbrev pub noGiven : Given
 noGiven = record { block = noBlock; length = 0; accel = 0; entry = 0; exit = 0; ramp = noRamp }
 
--- the numbers of a block given out, beside its moves
+-- how many numbers a block given out has beside its moves: its fields and eight more
+abbrev pub givenSize : ℕ
+givenSize = fieldsSize + 8
+
+-- these numbers
 abbrev pub givenNumbers : Given → List ℕ
 givenNumbers g =
     g .block .feed

@@ -3,14 +3,19 @@ ghost use mathlib.Core.Path.{_≡_};
 ghost use Prim.Native.Nat.{_≤_};
 ghost use lib.ListN.{length};
 ghost use lib.Seq.{sets};
-ghost use Rattle.line.specs.Answers.{givenNumbers, noGiven};
+ghost use Rattle.line.specs.Answers.{givenNumbers, givenSize, noGiven};
 use crate::Given;
 use machine::Ramp;
+use machine::blocks::FIELDS;
 use machine::blocks::no_block;
 
-// Stores the numbers of a block given out, eleven of them, at the beginning of the list.
+// Numbers of a block given out, beside its moves: its fields, length, acceleration, entry, exit, peak, and the lengths of
+// speeding up, of constant speed and of braking.
+pub const GIVEN: usize = FIELDS + 8;
+
+// Stores the numbers of a block given out at the beginning of the list.
 pub fn store_given_numbers(g: Given, list: &mut [u64])
-    requires { ⌜ 11 ≤ length (now list) ⌝ }
+    requires { ⌜ givenSize ≤ length (now list) ⌝ }
     ensures { λ r. ⌜ now (list .exit) ≡ sets (now (list .entry)) 0 (givenNumbers g) ⌝ }
 {
     let b = g.block;

@@ -1,10 +1,14 @@
--- Limits as nine numbers: acceleration X, Y, Z, µm/s², speed X, Y, Z, µm/s, corner jump, µm/s, chord tolerance, µm, tick, µs.
+-- Limits as numbers: acceleration X, Y, Z, µm/s², speed X, Y, Z, µm/s, corner jump, µm/s, chord tolerance, µm, tick, µs.
 use mathlib.Core.List.{List, _∷_}
 use Prim.Native.Nat.{ℕ}
 use lib.ListN.{getD}
 use Rattle.machine.specs.declared.Limits.{Limits}
 
--- the limits that the first nine numbers of a list say
+-- how many numbers
+abbrev pub limitsSize : ℕ
+limitsSize = 9
+
+-- the limits that the first numbers of a list say
 unfoldable pub limitsFrom : List ℕ → Limits
 limitsFrom list =
     record {
@@ -15,7 +19,7 @@ limitsFrom list =
       tick = getD list 8 0;
     }
 
--- the nine numbers of limits, in front of others
+-- the numbers of limits, in front of others
 abbrev pub limitNumbers : Limits → List ℕ → List ℕ
 limitNumbers l rest =
     l .accel .x ∷ l .accel .y ∷ l .accel .z ∷ l .speed .x ∷ l .speed .y ∷ l .speed .z ∷ l .jump ∷ l .chord ∷ l .tick ∷ rest

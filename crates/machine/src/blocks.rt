@@ -1,7 +1,13 @@
-// The two ways in which a block is made: from its fields, and from the numbers that a place or a record keeps of it.
+// The two ways in which a block is made: from its fields, and from the numbers that a place or a record keeps of it; and how many
+// numbers its fields are in lists.
 ghost use mathlib.Core.Path.{_≡_};
 ghost use Rattle.machine.specs.Labels.{labelOf, labelledBlock, noBlock, plainBlock};
 use crate::Block;
+
+// Moves of a block: X, Y, Z.
+pub const MOVES: usize = 3;
+// Numbers of a block beside its moves: feed, radius, mark.
+pub const FIELDS: usize = 3;
 
 // A block by its moves, µm, feed, µm/s, radius, µm, and mark.
 pub fn plain_block(x: i64, y: i64, z: i64, feed: u64, radius: u64, mark: u64) -> Block

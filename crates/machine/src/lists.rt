@@ -1,16 +1,19 @@
-// Limits as nine numbers of a lent list, in the order of a tape's limits.
+// Limits as `LIMITS` numbers of a lent list, in the order of a tape's limits.
 ghost use mathlib.Core.List.{[]};
 ghost use mathlib.Core.Path.{_≡_};
 ghost use Prim.Native.Nat.{_≤_};
 ghost use lib.ListN.{length};
 ghost use lib.Seq.{sets};
-ghost use Rattle.machine.specs.Lists.{limitNumbers, limitsFrom};
+ghost use Rattle.machine.specs.Lists.{limitNumbers, limitsFrom, limitsSize};
 use crate::Axes;
 use crate::Limits;
 
-// The limits that the first nine numbers say.
+// Numbers of limits: acceleration X, Y, Z, µm/s², speed X, Y, Z, µm/s, corner jump, µm/s, chord tolerance, µm, tick, µs.
+pub const LIMITS: usize = 9;
+
+// The limits that the first numbers say.
 pub fn limits_from(list: &[u64]) -> Limits
-    requires { ⌜ 9 ≤ length (now list) ⌝ }
+    requires { ⌜ limitsSize ≤ length (now list) ⌝ }
     ensures { λ r. ⌜ r ≡ limitsFrom (now (list .entry)) ⌝ }
 {
     let accel = Axes {
@@ -32,9 +35,9 @@ pub fn limits_from(list: &[u64]) -> Limits
     }
 }
 
-// Stores limits as the first nine numbers.
+// Stores limits as the first numbers.
 pub fn store_limits(l: Limits, list: &mut [u64])
-    requires { ⌜ 9 ≤ length (now list) ⌝ }
+    requires { ⌜ limitsSize ≤ length (now list) ⌝ }
     ensures { λ r. ⌜ now (list .exit) ≡ sets (now (list .entry)) 0 (limitNumbers l []) ⌝ }
 {
     let accel = l.accel;

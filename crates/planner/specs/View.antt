@@ -3,7 +3,7 @@ use mathlib.Core.List.{List, _∷_, []}
 use Prim.Native.Nat.{ℕ, zero, suc, _+_, _-_, _*_}
 use lib.ListN.{getD}
 use Rattle.profile.specs.Stairs.{Stair, stair}
-use Rattle.machine.specs.Lists.{limitsFrom, limitNumbers}
+use Rattle.machine.specs.Lists.{limitsFrom, limitNumbers, limitsSize}
 use Rattle.machine.specs.declared.Machine.{Machine}
 use Rattle.line.specs.Blocks.{mostHeld}
 use Rattle.line.specs.Ring.{Place, Ring}
@@ -35,9 +35,9 @@ stairBase i = baseOf mostHeld + stairSize * i
 abbrev pub lastStair : ℕ
 lastStair = stairBase (mostHeld - 1)
 
--- indices in the head, behind the limits
+-- indices in the head, after the limits
 abbrev pub firstIndex : ℕ
-firstIndex = 9
+firstIndex = limitsSize
 
 abbrev pub countIndex : ℕ
 countIndex = 10

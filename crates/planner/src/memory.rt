@@ -20,6 +20,7 @@ use machine::Machine;
 use machine::Numbers;
 use machine::blocks::label_of;
 use machine::blocks::labelled_block;
+use machine::lists::LIMITS;
 use machine::lists::limits_from;
 use machine::lists::store_limits;
 use profile::brake_from;
@@ -36,10 +37,10 @@ const STAIR: usize = 2;
 const STAIRS: usize = HEAD + PLACE * PLACES as usize;
 
 pub const NUMBERS: usize = STAIRS + STAIR * PLACES as usize;
-// The head, behind nine limits: the place of the first block, how many blocks are held, the committed
+// The head, after the limits: the place of the first block, how many blocks are held, the committed
 // squared speed, the torque, where the first stair stands, how many stairs stand before the line's end,
 // and the reaches of all blocks held together.
-pub const FIRST: usize = 9;
+pub const FIRST: usize = LIMITS;
 
 pub const COUNT: usize = 10;
 

@@ -1,14 +1,15 @@
 -- An answer as a row of numbers.
-use Prim.Native.Nat.{ℕ}
+use Prim.Native.Nat.{ℕ, _+_}
 use mathlib.Core.List.{List, _∷_, _++_, []}
 use Rattle.fields.specs.Signed.{bitsOf}
-use Rattle.line.specs.Answers.{Answer, accepted, gave, refused, givenNumbers, noGiven}
+use Rattle.machine.specs.Labels.{movesSize}
+use Rattle.line.specs.Answers.{Answer, accepted, gave, refused, givenNumbers, givenSize, noGiven}
 use Rattle.line.specs.declared.Given.{Given}
 use Rattle.replay.specs.Trace.{wordBits}
 
--- numbers of a row
+-- numbers of a row: the number on the display, and a block given out
 abbrev pub rowSize : ℕ
-rowSize = 15
+rowSize = 1 + movesSize + givenSize
 
 -- the number on the display, then a block given out: moves X, Y, Z by two's complement of 32 bits, and its other numbers
 abbrev pub rowFrom : (number : ℕ) → Given → List ℕ

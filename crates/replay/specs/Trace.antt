@@ -66,7 +66,7 @@ callsIn trace = (length trace - limitsBytes) / callBytes
 abbrev pub traceCalls : List ℕ → List line.Call
 traceCalls trace = wholeCalls (drop limitsBytes trace)
 
--- 9 where a trace is under 24 bytes or its rest no multiple of 28, else 0
+-- 9 where a trace has no whole limits, or ends inside a call, else 0
 abbrev pub raggedTrace : List ℕ → ℕ
 raggedTrace trace = cond (ltb (length trace) limitsBytes || not (eqb ((length trace - limitsBytes) % callBytes) 0)) 9 0
 

@@ -6,6 +6,7 @@ ghost use Rattle.line.specs.Answers.{answerMeans};
 ghost use Rattle.line.specs.Blocks.{callMeans};
 ghost use Rattle.replay.specs.Trace.{blockOf, callBytes, callIn, callOf, callWords, wordOf};
 ghost use Rattle.replay.specs.Rows.{rowFrom, rowOf, rowSize};
+use crate::BEFORE_GIVEN;
 use crate::CALL_BYTES;
 use display::refusal_number;
 use fields::to_bits;
@@ -79,7 +80,7 @@ fn store_row(number: u64, g: Given, row: &mut [u64])
     row[1] = to_bits(b.x, WORD);
     row[2] = to_bits(b.y, WORD);
     row[3] = to_bits(b.z, WORD);
-    store_given_numbers(g, &mut row[4..]);
+    store_given_numbers(g, &mut row[BEFORE_GIVEN..]);
 }
 
 // Writes the row of an answer.

@@ -1,8 +1,8 @@
 // Runs a trace, a list of calls of any length, through a planner. What it answers and leaves in the
-// lent lists is demand 3 of that list of calls (specs/Replays.antt). A trace is the 24 bytes of
-// limits as on tape, then 28 bytes a call: seven 32-bit words, most significant byte first: kind (0
-// is a take, any other number an add), moves X, Y, Z by two's complement, feed, radius, mark. A
-// take's other words play no part.
+// lent lists is demand 3 of that list of calls (specs/Replays.antt). A trace is the limits as on
+// tape, then `CALL_BYTES` a call: 32-bit words, most significant byte first: kind (0 is a take, any
+// other number an add), moves X, Y, Z by two's complement, feed, radius, mark. A take's other words
+// play no part.
 ghost use mathlib.Core.Path.{_≡_};
 ghost use Prim.Native.Nat.{_*_, _/_};
 ghost use lib.ListN.{length};
@@ -16,6 +16,8 @@ use calls::read_call;
 use calls::write_row;
 use display::Checked;
 use display::Refusal;
+use line::lists::GIVEN;
+use machine::blocks::MOVES;
 use planner::NUMBERS;
 use planner::Planner;
 use tape::LIMITS_BYTES;
@@ -27,9 +29,10 @@ pub mod calls;
 // Bytes of a call.
 pub const CALL_BYTES: usize = 28;
 // Numbers of an answer's row: the number on the display, and of a block given out its moves X, Y, Z
-// by two's complement of 32 bits, feed, radius, mark, length, acceleration, entry, exit, peak, and
-// the lengths of speeding up, of constant speed and of braking; else zeros.
-pub const ROW: usize = 15;
+// by two's complement of 32 bits and its other numbers; else zeros.
+pub const ROW: usize = BEFORE_GIVEN + GIVEN;
+// Those before the numbers of a block given out.
+const BEFORE_GIVEN: usize = 1 + MOVES;
 // Numbers of the list for the plan: as many as the longest line has junctions.
 pub const PLAN: usize = Planner::PLACES as usize + 1;
 

@@ -9,6 +9,7 @@ ghost use Rattle.replay.specs.Replays.{planSize};
 ghost use Rattle.replay_text.specs.Chunks.{chunkCalls, lineBytes, textBytes};
 ghost use Rattle.replay_text.specs.Texts.{answerText, recordedCalls};
 ghost use Rattle.replay_text.specs.Runs.{Closed, Ended, RanText};
+use arith::whole::fewer;
 use display::refusal_number;
 use given_text::store_given;
 use line::Answer;
@@ -41,11 +42,7 @@ pub fn records_of(bytes: &[u8], size: usize, most: usize) -> usize
     requires { ⌜ 0 < size ⌝ }
     ensures { λ r. ⌜ r ≡ min (length (now (bytes .entry)) / size) most ⌝ }
 {
-    let whole = bytes.len() / size;
-    if whole < most {
-        return whole;
-    }
-    most
+    fewer(bytes.len() / size, most)
 }
 
 // Runs the calls of a chunk in turn, each line behind the one before it.

@@ -41,7 +41,7 @@ limitsWriteRefusal l s = limitsRefusal l then raggedBelow limitsBytes s
 unfoldable pub recordWriteRefusal : Block → List ℕ → ℕ
 recordWriteRefusal b s = blockRefusal b then raggedBelow recordBytes s
 
--- the lent bytes after writing: the first 24, or 16, are stored, and none where it is refused
+-- the lent bytes after writing: the first, those of the limits or of the record, are stored, and none where it is refused
 unfoldable pub limitsWritten : Limits → List ℕ → List ℕ
 limitsWritten l s = byNumber (limitsWriteRefusal l s) (withBytes s 0 limitsBytes (limitsNumber l)) s
 

@@ -21,15 +21,15 @@ limitsLayout = 25 ∷ 25 ∷ 25 ∷ 20 ∷ 20 ∷ 20 ∷ 20 ∷ 10 ∷ 14 ∷ 13
 abbrev pub limitsFields : Limits → List ℕ
 limitsFields l = limitNumbers l (0 ∷ [])
 
--- limits as the number that their 24 bytes write
+-- limits as the number that their bytes write
 unfoldable pub limitsNumber : Limits → ℕ
 limitsNumber l = joined limitsLayout (limitsFields l)
 
--- the values of the fields in the first 24 bytes
+-- the values of the fields in the bytes of the limits
 abbrev pub limitsValues : List ℕ → List ℕ
 limitsValues s = split limitsLayout (numberOf (take limitsBytes s))
 
--- the limits, and the zero bits, that the first 24 bytes say
+-- the limits, and the zero bits, that these bytes say
 unfoldable pub limitsAt : List ℕ → Limits
 limitsAt s = limitsFrom (limitsValues s)
 
@@ -55,15 +55,15 @@ abbrev pub blockFrom : List ℕ → Block
 blockFrom vs =
     labelledBlock (signedOf moveBits (getD vs 0 0)) (signedOf moveBits (getD vs 1 0)) (signedOf moveBits (getD vs 2 0)) (getD vs 3 0) (getD vs 4 0) (getD vs 5 0)
 
--- a block as the number that its 16 bytes write
+-- a block as the number that its bytes write
 unfoldable pub blockNumber : Block → ℕ
 blockNumber b = joined recordLayout (blockFields b)
 
--- the values of the fields in the first 16 bytes
+-- the values of the fields in the bytes of a record
 abbrev pub recordValues : List ℕ → List ℕ
 recordValues s = split recordLayout (numberOf (take recordBytes s))
 
--- the block that the first 16 bytes say
+-- the block that these bytes say
 unfoldable pub blockAt : List ℕ → Block
 blockAt s = blockFrom (recordValues s)
 

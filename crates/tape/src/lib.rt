@@ -1,4 +1,4 @@
-// The tape: 24 bytes of limits and then 16 bytes for each block, in fields packed without gaps, most significant bit first.
+// The tape: `LIMITS_BYTES` of limits and then `RECORD_BYTES` for each block, in fields packed without gaps, most significant bit first.
 // Any bytes and any values are answered: nothing is required of who reads, writes or checks.
 pub mod limits;
 pub mod records;

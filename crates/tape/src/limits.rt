@@ -1,4 +1,4 @@
-// The limits of a machine: 24 bytes, read field by field and written as three words.
+// The limits of a machine: `LIMITS_BYTES`, read field by field and written as three words.
 ghost use mathlib.Core.Path.{_≡_};
 ghost use Prim.Native.Nat.{_+_, _*_, _/_, _%_, _^_, _<_, _≤_};
 ghost use lib.ListN.{length};
@@ -16,7 +16,7 @@ use machine::Axes;
 use machine::Limits;
 use machine::check::check_limits;
 
-// The limits that the first 24 bytes say, unchecked, whatever the zero bits are. A field is named by its first bit and its width.
+// The limits that the first bytes say, unchecked, whatever the zero bits are. A field is named by its first bit and its width.
 fn decode_limits(s: &[u8]) -> Limits
     requires { ⌜ limitsBytes ≤ length (now s) ⌝ }
     ensures { λ r. ⌜ r ≡ limitsAt (now (s .entry)) ⌝ }
@@ -62,7 +62,7 @@ fn third_word(z: u64, jump: u64, chord: u64, tick: u64) -> u64
     ((z % (1 << 7)) << 57) + (jump << 37) + (chord << 27) + (tick << 13)
 }
 
-// Stores limits whose values fit their fields in the first 24 bytes.
+// Stores limits whose values fit their fields in the first bytes.
 fn store_limits(l: Limits, out: &mut [u8])
     requires { ⌜ (limitsBytes ≤ length (now out)) × InWidths limitsLayout (limitsFields l) ⌝ }
     ensures { λ r. ⌜ now (out .exit) ≡ withBytes (now (out .entry)) 0 limitsBytes (limitsNumber l) ⌝ }
@@ -94,7 +94,7 @@ pub fn read_limits(s: &[u8]) -> LimitsRead
     }
 }
 
-// Writes limits at the beginning of the lent bytes, of which only 24 change. 1 comes first, then 9.
+// Writes limits at the beginning of the lent bytes, of which only `LIMITS_BYTES` change. 1 comes first, then 9.
 pub fn write_limits(l: Limits, out: &mut [u8]) -> Checked
     ensures { λ r. ⌜ Wrote (limitsWriteRefusal l (now (out .entry))) (limitsWritten l (now (out .entry))) r (now (out .exit)) ⌝ }
 {

@@ -1,4 +1,4 @@
-// One record: 16 bytes, read and written as two words, alone or in its place on a tape.
+// One record: `RECORD_BYTES`, read and written as two words, alone or in its place on a tape.
 ghost use mathlib.Core.Path.{_≡_};
 ghost use Prim.Native.Nat.{_+_, _*_, _/_, _%_, _^_, _<_, _≤_, min};
 ghost use lib.ListN.{length};
@@ -27,7 +27,7 @@ fn feed_of(first: u64, second: u64) -> u64
     ((first % 2) << 19) + (second >> 45)
 }
 
-// The block that the first 16 bytes say, unchecked. Moves X, Y and Z have 43, 22 and 1
+// The block that the first bytes say, unchecked. Moves X, Y and Z have 43, 22 and 1
 // bits below them in the first word, and the radius has 21 below it in the second.
 fn decode_record(s: &[u8]) -> Block
     requires { ⌜ recordBytes ≤ length (now s) ⌝ }
@@ -65,7 +65,7 @@ fn second_word(feed: u64, radius: u64, label: u64) -> u64
     ((feed % (1 << 19)) << 45) + (radius << 21) + label
 }
 
-// Stores a block whose values fit their fields in the first 16 bytes.
+// Stores a block whose values fit their fields in the first bytes.
 fn store_record(b: Block, out: &mut [u8])
     requires { ⌜ (recordBytes ≤ length (now out)) × InWidths recordLayout (blockFields b) ⌝ }
     ensures { λ r. ⌜ now (out .exit) ≡ withBytes (now (out .entry)) 0 recordBytes (blockNumber b) ⌝ }
@@ -94,7 +94,7 @@ pub fn read_record(s: &[u8]) -> RecordRead
     }
 }
 
-// Writes a block's record at the beginning of the lent part of a tape, of which only 16 bytes change. 2 to 6 come first, then 9.
+// Writes a block's record at the beginning of the lent part of a tape, of which only the record's bytes change. 2 to 6 come first, then 9.
 pub fn write_record(b: Block, out: &mut [u8]) -> Checked
     ensures { λ r. ⌜ Wrote (recordWriteRefusal b (now (out .entry))) (recordWritten b (now (out .entry))) r (now (out .exit)) ⌝ }
 {
@@ -155,8 +155,8 @@ pub fn record_at(s: &[u8], k: usize) -> RecordRead
     RecordRead::Refused(Refusal::Ragged)
 }
 
-// Writes a block as record k of a tape, k counted from 0: the writer of a record is lent the part that begins at byte
-// 24 + 16 × k, which is empty where the tape ends before that. Only the record's 16 bytes change. 2 to 6 come first, then 9
+// Writes a block as record k of a tape, k counted from 0: the writer of a record is lent the part that begins at that
+// record, which is empty if the tape ends before that. Only the record's bytes change. 2 to 6 come first, then 9
 // where the tape ends before the record does.
 pub fn write_record_at(b: Block, tape: &mut [u8], k: usize) -> Checked
     ensures { λ r. ⌜ Wrote (tapeWriteRefusal b k (now (tape .entry))) (tapeWritten b k (now (tape .entry))) r (now (tape .exit)) ⌝ }

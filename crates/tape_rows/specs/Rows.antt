@@ -5,7 +5,7 @@ use Rattle.profile.specs.Line.{capAt, numberAt}
 use Rattle.machine.specs.Numbers.{blockCap}
 use Rattle.machine.specs.declared.Block.{Block}
 use Rattle.machine.specs.declared.Ramp.{Ramp}
-use Rattle.line.specs.Answers.{givenNumbers, givenOf, rampBetween}
+use Rattle.line.specs.Answers.{givenNumbers, givenOf, givenSize, rampBetween}
 use Rattle.line.specs.declared.Given.{Given}
 use Rattle.tape.specs.Tape.{recordAt, recordsIn, tapeLimits}
 use Rattle.tapeplan.specs.Planned.{FilledTape, tapeMachine, tapePlan, tapeSpans}
@@ -17,9 +17,9 @@ use Rattle.tapeplan.specs.declared.TapePlanned.{TapePlanned}
 abbrev pub rowOf : (s loaded : List ℕ) (k : ℕ) → Given
 rowOf s loaded k = givenOf (tapeMachine s loaded) (recordAt s k) (numberAt (tapePlan s loaded) k) (numberAt (tapePlan s loaded) (k + 1))
 
--- numbers of a row
+-- numbers of a row: those of a block given out, and two more
 abbrev pub rowSize : ℕ
-rowSize = 13
+rowSize = givenSize + 2
 
 -- a row: the numbers of a block given out, its cap, and the cap of the junction where it begins, (µm/s)²
 abbrev pub rowFrom : Given → (cap junction : ℕ) → List ℕ

@@ -7,6 +7,7 @@ ghost use Rattle.tapeplan.specs.Sheet.{rowsIn};
 ghost use Rattle.tape_rows.specs.Rows.{ListedTape, rowSize, rowsFrom, sheetRow, shownRow};
 use arith::whole::one_fewer;
 use display::Refusal;
+use line::lists::GIVEN;
 use machine::Block;
 use machine::Ramp;
 use machine::corner::cap_beside;
@@ -21,7 +22,7 @@ use tapeplan::whole::JUNCTIONS;
 use tapeplan::whole::plan_on_work_sheet;
 
 // Numbers of a row: those of a block given out, its cap, and the cap of the junction where it begins, (µm/s)².
-pub const ROW: usize = 13;
+pub const ROW: usize = GIVEN + 2;
 
 // Stores the row of a block, between two squared speeds with the ramp between them.
 fn store_row(

@@ -8,6 +8,7 @@ use crate::Digits;
 use crate::Number;
 use crate::bytes::is_digit;
 use arith::signed::signed_by;
+use arith::whole::fewer;
 use fields::wide;
 
 // Most digits before the point and behind it, and the parts of 1 in which numbers are counted.
@@ -24,7 +25,7 @@ const LOOKED: usize = MOST_DIGITS + 1;
 fn looked(size: usize) -> usize
     ensures { λ r. ⌜ r ≡ min size lookedDigits ⌝ }
 {
-    if size < LOOKED { size } else { LOOKED }
+    fewer(size, LOOKED)
 }
 
 // Digits by their number and the number that they write.

@@ -3,6 +3,13 @@
 
 /// Numbers of a planner's memory.
 pub const NUMBERS: usize = 848;
+/// Numbers of a machine's limits.
+pub const LIMITS: usize = 9;
+/// Moves of a block, numbers of a record beside them, and of a block given out
+/// beside them.
+pub const MOVES: usize = 3;
+pub const RECORD: usize = 3;
+pub const GIVEN: usize = 11;
 /// Numbers of a trace's row, and of the list for its plan.
 pub const ROW: usize = 15;
 pub const PLAN: usize = 65;

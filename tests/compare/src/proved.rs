@@ -44,7 +44,7 @@ fn numbers(count: usize) -> Guarded<u64> {
 
 /// A lent list of three moves.
 fn three_moves() -> Guarded<i64> {
-    Guarded::new(&[FILLER.get() as i64; 3], GUARD as i64)
+    Guarded::new(&[FILLER.get() as i64; MOVES], GUARD as i64)
 }
 
 /// Sees that the guards stand and that a refused call changed nothing.
@@ -68,7 +68,7 @@ pub fn root(n: u64) -> u64 {
 /// Limits read from the bytes.
 pub fn read_limits(bytes: &[u8]) -> Result<Limits, Refusal> {
     let mut source = Guarded::new(bytes, BYTE_GUARD);
-    let mut limits = numbers(9);
+    let mut limits = numbers(LIMITS);
     let before = limits.list().to_vec();
     let number = unsafe { fullerecru_read_limits(source.lend(), bytes.len(), limits.lend()) };
     source.confirm_only_read(bytes);
@@ -91,7 +91,7 @@ pub fn write_limits(limits: &Limits, bytes: &mut [u8]) -> Result<(), Refusal> {
 /// A record read from the bytes.
 pub fn read_record(bytes: &[u8]) -> Result<Block, Refusal> {
     let mut source = Guarded::new(bytes, BYTE_GUARD);
-    let (mut moves, mut rest) = (three_moves(), numbers(3));
+    let (mut moves, mut rest) = (three_moves(), numbers(RECORD));
     let before = (moves.list().to_vec(), rest.list().to_vec());
     let count = bytes.len();
     let number = unsafe { fullerecru_read_record(source.lend(), count, moves.lend(), rest.lend()) };
@@ -304,7 +304,7 @@ impl LookAhead for Planner {
     }
 
     fn take(&mut self) -> Result<Given, Refusal> {
-        let (mut moves, mut rest) = (three_moves(), numbers(11));
+        let (mut moves, mut rest) = (three_moves(), numbers(GIVEN));
         let before = (moves.list().to_vec(), rest.list().to_vec());
         let (lent, others) = (moves.lend(), rest.lend());
         let number = self.call(|memory| unsafe { fullerecru_take(memory, lent, others) });

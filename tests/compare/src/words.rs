@@ -1,6 +1,7 @@
 //! Limits, blocks and blocks given out as the lists of numbers that C lends, and
 //! lists of torque steps.
 
+use crate::library::{GIVEN, LIMITS, MOVES};
 use reference::generate::{faulty_steps, steps};
 use reference::machine::{Block, Given, Limits, Ramp};
 use reference::refusal::Refusal;
@@ -37,7 +38,7 @@ pub fn answer_of(number: u64) -> Result<(), Refusal> {
 }
 
 /// Accelerations X, Y, Z, speeds X, Y, Z, jump, chord tolerance, tick.
-pub fn limit_words(limits: &Limits) -> [u64; 9] {
+pub fn limit_words(limits: &Limits) -> [u64; LIMITS] {
     let [ax, ay, az] = limits.accel;
     let [sx, sy, sz] = limits.speed;
     [
@@ -66,7 +67,7 @@ pub fn limits_of(words: &[u64]) -> Limits {
 
 /// Limits of words of any size, mostly far outside their ranges.
 pub fn any_limits(rng: &mut Rng) -> Limits {
-    limits_of(&[(); 9].map(|_| any_word(rng)))
+    limits_of(&[(); LIMITS].map(|_| any_word(rng)))
 }
 
 /// Torque steps that pass, loaded in about a third, and once in eight times such
@@ -82,7 +83,7 @@ pub fn some_steps(rng: &mut Rng) -> Vec<u8> {
 /// A block of words of any size.
 pub fn any_block(rng: &mut Rng) -> Block {
     Block {
-        moves: [(); 3].map(|_| any_word(rng) as i64),
+        moves: [(); MOVES].map(|_| any_word(rng) as i64),
         feed: any_word(rng),
         radius: any_word(rng),
         mark: any_word(rng),
@@ -101,7 +102,7 @@ pub fn any_word(rng: &mut Rng) -> u64 {
 
 /// Feed, radius, mark, length, acceleration, entry, exit, peak, up, cruise,
 /// down of a block given out.
-pub fn given_words(given: &Given) -> [u64; 11] {
+pub fn given_words(given: &Given) -> [u64; GIVEN] {
     let Given { block, ramp, .. } = given;
     [
         block.feed,

@@ -14,6 +14,7 @@
 
 pub mod anew;
 pub mod bits;
+pub mod call_cases;
 pub mod cam_host;
 pub mod circle;
 pub mod doubles;

@@ -4,6 +4,10 @@
 use std::fmt::Display;
 use std::ops::RangeInclusive;
 
+use crate::call_cases::{
+    self, block_of, block_words, limit_words, limits_of, word_bytes, words_of, Kind, BLOCK_WORDS,
+    LIMIT_WORDS, WORD_BYTES,
+};
 use crate::generate::{
     faulty_block, faulty_limits, limits, machine_m, path, tight_path, tiny_limits, BLOCK_FAULTS,
 };
@@ -12,10 +16,6 @@ use crate::machine::{Block, Limits, Machine, Numbers};
 use crate::refusal::Refusal;
 use crate::rng::Rng;
 use crate::step_cases;
-
-/// Numbers of a case in text before its loaded steps: nine limits and two
-/// blocks of six fields.
-const WORDS: usize = 21;
 
 /// Limits, two blocks, one after the other, and the list of loaded torque
 /// steps, empty if none are.
@@ -44,53 +44,27 @@ impl Case {
         Case { steps, ..self }
     }
 
-    /// The case as a line of words of 64 bits in two's complement, and one more
-    /// for each byte of the loaded steps.
-    pub fn line(&self) -> String {
-        let l = &self.limits;
-        let mut words: Vec<i64> = Vec::with_capacity(WORDS);
-        let rest = [l.jump, l.chord, l.tick];
-        words.extend(
-            l.accel
-                .iter()
-                .chain(&l.speed)
-                .chain(&rest)
-                .map(|w| *w as i64),
-        );
-        for block in [&self.before, &self.after] {
-            words.extend(block.moves);
-            words.extend([block.feed, block.radius, block.mark].map(|w| w as i64));
+    /// The case as a call: the limits are its values, the two blocks' words and
+    /// then the loaded steps are the bytes that it lends.
+    pub fn call(&self) -> call_cases::Case {
+        let blocks = [&self.before, &self.after].map(block_words);
+        let mut stored = word_bytes(&blocks.concat());
+        stored.extend(&self.steps);
+        call_cases::Case {
+            values: limit_words(&self.limits),
+            ..call_cases::Case::reading(Kind::Machine, &stored)
         }
-        words.extend(self.steps.iter().map(|step| i64::from(*step)));
-        spaced(&words)
     }
 
-    /// The case of such a line.
-    pub fn of_line(line: &str) -> Case {
-        let words: Vec<i64> = line
-            .split(' ')
-            .map(|w| w.parse().expect("a word"))
-            .collect();
-        let steps = words[WORDS..].iter().map(|step| u8::try_from(*step));
-        let three = |k: usize| [words[k] as u64, words[k + 1] as u64, words[k + 2] as u64];
-        let [jump, chord, tick] = three(6);
-        let block = |k: usize| Block {
-            moves: [words[k], words[k + 1], words[k + 2]],
-            feed: words[k + 3] as u64,
-            radius: words[k + 4] as u64,
-            mark: words[k + 5] as u64,
-        };
+    /// The case of a call's values and lent bytes.
+    pub fn of_call(values: &[u64; LIMIT_WORDS], lent: &[u8]) -> Case {
+        let (blocks, steps) = lent.split_at(2 * BLOCK_WORDS * WORD_BYTES);
+        let words = words_of(blocks);
         Case {
-            limits: Limits {
-                accel: three(0),
-                speed: three(3),
-                jump,
-                chord,
-                tick,
-            },
-            before: block(9),
-            after: block(15),
-            steps: steps.collect::<Result<_, _>>().expect("bytes"),
+            limits: limits_of(values),
+            before: block_of(&words),
+            after: block_of(&words[BLOCK_WORDS..]),
+            steps: steps.to_vec(),
         }
     }
 

@@ -1,7 +1,11 @@
-//! Cases for the tape's calls: bytes lent or words to write, and what is answered.
+//! Cases for the tape's calls: bytes lent or values to write, and what is answered.
 
 use std::ops::RangeInclusive;
 
+use crate::call_cases::{
+    block_of, block_words, limit_words, limits_of, Case, Kind, BLOCK_WORDS, BUFFER_BYTES,
+    LIMIT_WORDS,
+};
 use crate::generate::{faulty_block, faulty_limits, limits, machine_m, path, BLOCK_FAULTS};
 use crate::machine::{range, Block, Limits};
 use crate::machine_cases::spaced;
@@ -13,166 +17,63 @@ use crate::tape::{
     MOVE_BITS, RECORD_BYTES, ZERO_BITS,
 };
 
-/// Bytes of the buffer of which every case lends the first ones.
-pub const BUFFER_BYTES: usize = 40_000;
-/// Words of the limits and of a block.
-const LIMIT_WORDS: usize = 9;
-const BLOCK_WORDS: usize = 6;
-/// Words of a case's head: kind, bytes lent, bytes stored, words to write.
-const HEAD_WORDS: usize = 3 + LIMIT_WORDS;
-const WORD_BYTES: usize = 8;
 /// Byte that a part of the tape holds before it is written.
 const FILLER: u8 = 0xa5;
 /// Faulty blocks drawn for each set of refusals.
 const DRAWS: usize = 4;
 
-/// Calls on a lent part of the tape, or on a whole one.
-#[derive(Clone, Copy, Debug, PartialEq, Eq)]
-pub enum Kind {
-    ReadLimits = 0,
-    ReadRecord = 1,
-    WriteLimits = 2,
-    WriteRecord = 3,
-    Check = 4,
-    WriteRecordAt = 5,
-}
-
-const KINDS: [Kind; 6] = [
-    Kind::ReadLimits,
-    Kind::ReadRecord,
-    Kind::WriteLimits,
-    Kind::WriteRecord,
-    Kind::Check,
-    Kind::WriteRecordAt,
-];
-
-/// One call: what is stored at the buffer's begin, then the bytes lent.
-#[derive(Clone, Debug, PartialEq, Eq)]
-pub struct Case {
-    pub kind: Kind,
-    pub lent: usize,
-    pub words: [u64; LIMIT_WORDS],
-    pub stored: Vec<u8>,
-}
-
 impl Case {
-    /// A call without words on `lent` bytes of the buffer.
-    fn lending(kind: Kind, stored: &[u8], lent: usize) -> Case {
-        assert!(stored.len() <= lent && lent <= BUFFER_BYTES);
-        Case {
-            kind,
-            lent,
-            words: [0; LIMIT_WORDS],
-            stored: stored.to_vec(),
-        }
-    }
-
-    /// A call that lends just the bytes stored.
-    fn reading(kind: Kind, stored: &[u8]) -> Case {
-        Case::lending(kind, stored, stored.len())
-    }
-
     /// The limits written into a part of `lent` filler bytes.
     fn writing_limits(limits: &Limits, lent: usize) -> Case {
-        let words = limit_words(limits);
         Case {
-            words,
+            values: limit_words(limits),
             ..Case::reading(Kind::WriteLimits, &vec![FILLER; lent])
         }
     }
 
     /// The block written into a part of `lent` filler bytes.
     fn writing_record(block: &Block, lent: usize) -> Case {
-        let words = block_words(block);
         Case {
-            words,
+            values: record_values(block, 0),
             ..Case::reading(Kind::WriteRecord, &vec![FILLER; lent])
         }
     }
 
     /// The block written as record k, from 0, of a tape of `lent` filler bytes.
     fn writing_at(block: &Block, k: u64, lent: usize) -> Case {
-        let mut words = block_words(block);
-        words[BLOCK_WORDS] = k;
         Case {
-            words,
+            values: record_values(block, k),
             ..Case::reading(Kind::WriteRecordAt, &vec![FILLER; lent])
         }
     }
+}
 
-    /// The case as bytes: its head, most significant byte first, then what is
-    /// stored.
-    pub fn bytes(&self) -> Vec<u8> {
-        let head = [self.kind as u64, self.lent as u64, self.stored.len() as u64];
-        let words = head.iter().chain(&self.words);
-        let mut bytes: Vec<u8> = words.flat_map(|w| w.to_be_bytes()).collect();
-        bytes.extend(&self.stored);
-        bytes
-    }
-
-    /// The answer as a line; the buffer keeps what is stored and written.
-    fn answer(&self, buffer: &mut [u8]) -> String {
-        buffer[..self.stored.len()].copy_from_slice(&self.stored);
-        let part = &mut buffer[..self.lent];
-        match self.kind {
-            Kind::ReadLimits => {
-                let shown = |l| format!("limits {}", spaced(&limit_words(&l)));
-                read_limits(part).map_or_else(refused, shown)
-            }
-            Kind::ReadRecord => read_record(part).map_or_else(refused, record_line),
-            Kind::WriteLimits => {
-                let answer = write_limits(&limits_of(&self.words), part);
-                written(answer, part)
-            }
-            Kind::WriteRecord => {
-                let answer = write_record(&block_of(&self.words), part);
-                written(answer, part)
-            }
-            Kind::WriteRecordAt => {
-                let answer = write_record_at(&block_of(&self.words), part, self.words[BLOCK_WORDS]);
-                written(answer, part)
-            }
-            Kind::Check => match read_tape(part) {
-                Ok(tape) => format!("accepted {}", tape.blocks.len()),
-                Err(fault) => format!("{} at {}", refused(fault.refusal), fault.place),
-            },
+/// The answer to a call on a lent part of the tape, which keeps what is written.
+pub(crate) fn answer(kind: Kind, values: &[u64; LIMIT_WORDS], part: &mut [u8]) -> String {
+    match kind {
+        Kind::ReadLimits => {
+            let shown = |l| format!("limits {}", spaced(&limit_words(&l)));
+            read_limits(part).map_or_else(refused, shown)
         }
+        Kind::ReadRecord => read_record(part).map_or_else(refused, record_line),
+        Kind::WriteLimits => {
+            let answer = write_limits(&limits_of(values), part);
+            written(answer, part)
+        }
+        Kind::WriteRecord => {
+            let answer = write_record(&block_of(values), part);
+            written(answer, part)
+        }
+        Kind::WriteRecordAt => {
+            let answer = write_record_at(&block_of(values), part, values[BLOCK_WORDS]);
+            written(answer, part)
+        }
+        Kind::Check => match read_tape(part) {
+            Ok(tape) => format!("accepted {}", tape.blocks.len()),
+            Err(fault) => format!("{} at {}", refused(fault.refusal), fault.place),
+        },
+        Kind::Machine => panic!("no call of the tape"),
     }
-}
-
-/// The cases one after the other as bytes.
-pub fn bytes_of(cases: &[Case]) -> Vec<u8> {
-    cases.iter().flat_map(Case::bytes).collect()
-}
-
-/// The cases that such bytes denote.
-pub fn cases_of(stdin: &[u8]) -> Vec<Case> {
-    let mut rest = stdin;
-    let mut cases = Vec::new();
-    while !rest.is_empty() {
-        let (head, after) = rest.split_at(HEAD_WORDS * WORD_BYTES);
-        let words: Vec<u64> = head.chunks(WORD_BYTES).map(word).collect();
-        let (stored, next) = after.split_at(words[2] as usize);
-        cases.push(Case {
-            words: words[3..].try_into().expect("nine words"),
-            ..Case::lending(KINDS[words[0] as usize], stored, words[1] as usize)
-        });
-        rest = next;
-    }
-    cases
-}
-
-/// The answers to such bytes, a line for each case.
-pub fn answers(stdin: &[u8]) -> String {
-    let mut buffer = vec![0; BUFFER_BYTES];
-    let cases = cases_of(stdin);
-    let lines = cases.iter().map(|case| case.answer(&mut buffer) + "\n");
-    lines.collect()
-}
-
-/// Word of 8 bytes, most significant byte first.
-fn word(bytes: &[u8]) -> u64 {
-    u64::from_be_bytes(bytes.try_into().expect("eight bytes"))
 }
 
 fn refused(refusal: Refusal) -> String {
@@ -192,40 +93,13 @@ fn written(answer: Result<(), Refusal>, part: &[u8]) -> String {
     format!("{end} {hex}")
 }
 
-/// Acceleration X, Y, Z, speed X, Y, Z, J, E, T.
-fn limit_words(l: &Limits) -> [u64; LIMIT_WORDS] {
-    let [ax, ay, az] = l.accel;
-    let [sx, sy, sz] = l.speed;
-    [ax, ay, az, sx, sy, sz, l.jump, l.chord, l.tick]
-}
-
-/// The limits of such words.
-fn limits_of(words: &[u64; LIMIT_WORDS]) -> Limits {
-    let [ax, ay, az, sx, sy, sz, jump, chord, tick] = *words;
-    Limits {
-        accel: [ax, ay, az],
-        speed: [sx, sy, sz],
-        jump,
-        chord,
-        tick,
-    }
-}
-
-/// Moves X, Y, Z in two's complement, feed, radius, mark; the rest 0.
-fn block_words(block: &Block) -> [u64; LIMIT_WORDS] {
-    let [x, y, z] = block.moves.map(|m| m as u64);
-    [x, y, z, block.feed, block.radius, block.mark, 0, 0, 0]
-}
-
-/// The block of such words.
-fn block_of(words: &[u64; LIMIT_WORDS]) -> Block {
-    let [x, y, z, feed, radius, mark] = words[..BLOCK_WORDS].try_into().expect("six words");
-    Block {
-        moves: [x as i64, y as i64, z as i64],
-        feed,
-        radius,
-        mark,
-    }
+/// The values of a record that is written: the block's words, then the number of
+/// the record on the tape, 0 if it is written alone; the rest 0.
+fn record_values(block: &Block, k: u64) -> [u64; LIMIT_WORDS] {
+    let mut values = [0; LIMIT_WORDS];
+    values[..BLOCK_WORDS].copy_from_slice(&block_words(block));
+    values[BLOCK_WORDS] = k;
+    values
 }
 
 /// All cases, in the order of the groups below.

@@ -177,8 +177,8 @@ fn tapes_show_the_rule() {
     check(&shown, 30, 1_000, 4_000);
 }
 
-/// The cases of the test program `machine_run`, which answers block caps and no
-/// peaks; those that a check refuses are left out.
+/// The machine's cases of the test program `calls_run`, which answers block caps
+/// and no peaks; those that a check refuses are left out.
 #[test]
 fn machine_cases_show_the_rule() {
     let accepted = |case: Case| {

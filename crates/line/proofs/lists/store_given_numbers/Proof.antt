@@ -1,4 +1,4 @@
--- `line::lists::store_given_numbers` meets its contract: eleven stores are a run.
+-- `line::lists::store_given_numbers` meets its contract: the stores are a run.
 use borrow.Author.Needs.{needs}
 use native.Mathlib.Omega.{arith}
 use lib.ListN.{length-set}

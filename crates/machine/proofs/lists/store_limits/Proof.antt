@@ -1,4 +1,4 @@
--- `machine::lists::store_limits` meets its contract: nine stores are a run.
+-- `machine::lists::store_limits` meets its contract: the stores are a run.
 use borrow.Author.Needs.{needs}
 use native.Mathlib.Omega.{arith}
 use lib.ListN.{length-set}

@@ -1,9 +1,9 @@
--- `tape_run::lend` is safe: a part that begins at the first byte has the length that it is given.
+-- `calls_run::lend` is safe: a part that begins at the first byte has the length that it is given.
 use lib.ListN.{length-take}
 use native.Mathlib.Omega.{arith}
 use borrow.Author.Needs.{needs}
-use Rattle.tape_run.proofs.lend.Statement.{statement}
-use Rattle.tape_run.proofs.lend.Tie as tie
+use Rattle.calls_run.proofs.lend.Statement.{statement}
+use Rattle.calls_run.proofs.lend.Tie as tie
 
 slice-aggregate-answer : tie.Need-slice-aggregate-answer
 slice-aggregate-answer c = simp length-take (omega arith)

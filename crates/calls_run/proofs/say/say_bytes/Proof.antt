@@ -1,9 +1,9 @@
--- `tape_run::say_bytes` is safe and ends: what is left of the bytes falls.
+-- `calls_run::say::say_bytes` is safe and ends: what is left of the bytes falls.
 use Prim.Native.Nat.{_-_, _≤_}
 use lib.ListN.{length}
 use borrow.Author.Needs.{needs}
-use Rattle.tape_run.proofs.say_bytes.Statement.{statement}
-use Rattle.tape_run.proofs.say_bytes.Tie as tie
+use Rattle.calls_run.proofs.say.say_bytes.Statement.{statement}
+use Rattle.calls_run.proofs.say.say_bytes.Tie as tie
 
 abbrev Inv-loop : tie.InvT-loop
 Inv-loop bytes i₀ i = i ≤ length bytes

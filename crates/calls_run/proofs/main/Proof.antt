@@ -1,7 +1,7 @@
--- `tape_run::main` is safe and ends: the turns that are left fall.
+-- `calls_run::main` is safe and ends: the turns that are left fall.
 use borrow.Author.Needs.{needs}
-use Rattle.tape_run.proofs.main.Statement.{statement}
-use Rattle.tape_run.proofs.main.Tie as tie
+use Rattle.calls_run.proofs.main.Statement.{statement}
+use Rattle.calls_run.proofs.main.Tie as tie
 
 abbrev Inv-loop : tie.InvT-loop
 Inv-loop buffer₀ turns₀ buffer turns = Unit {0}

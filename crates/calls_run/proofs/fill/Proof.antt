@@ -1,9 +1,9 @@
--- `tape_run::fill` is safe: a part that begins at the first byte has the length that it is given.
+-- `calls_run::fill` is safe: a part that begins at the first byte has the length that it is given.
 use lib.ListN.{length-take}
 use native.Mathlib.Omega.{arith}
 use borrow.Author.Needs.{needs}
-use Rattle.tape_run.proofs.fill.Statement.{statement}
-use Rattle.tape_run.proofs.fill.Tie as tie
+use Rattle.calls_run.proofs.fill.Statement.{statement}
+use Rattle.calls_run.proofs.fill.Tie as tie
 
 slice-aggregate-read-full : tie.Need-slice-aggregate-read-full
 slice-aggregate-read-full c = simp length-take (omega arith)
