@@ -5,7 +5,7 @@
  * nothing between calls: all that it works on is lent by the caller. Of the C library it calls memset
  * and memcpy. It has at most 128 bytes of read-only data. A call needs under 1 kB of stack,
  * fullerecru_replay under 8 kB, fullerecru_plan_tape and fullerecru_text under 34 kB,
- * fullerecru_report_add, fullerecru_held_by and fullerecru_list_tape under 280 kB.
+ * fullerecru_report_add, fullerecru_held_by and fullerecru_list_tape under 180 kB.
  *
  * Where it may run: in a process or thread of Linux. The code uses SSE registers, and memory below
  * the stack pointer (the red zone of System V calls). So it is not for a kernel, and not for an

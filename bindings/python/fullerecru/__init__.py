@@ -6,7 +6,7 @@ Refused and changes nothing. A number that the library's types cannot hold raise
 OverflowError before the call. What is worked out: docs/RULES.md of the repository.
 
 A planner, a host and a report are used by one thread at a time. A thread that plans or reports tapes
-needs 300 kB of stack.
+needs 200 kB of stack.
 """
 from . import sizes
 from ._lent import Bytes, Steps

@@ -24,7 +24,7 @@
 //! planner, a host or a report take it by `&mut`.
 //!
 //! A call needs under 1 kB of stack, [`replay`] under 8 kB, [`plan_tape`] and the functions for texts
-//! under 34 kB, [`list_tape`], [`held_by`] and [`Report::add`] under 280 kB, and [`Planner::fresh`] the
+//! under 34 kB, [`list_tape`], [`held_by`] and [`Report::add`] under 180 kB, and [`Planner::fresh`] the
 //! 6 kB of the planner that it gives. That is well within the 2 MiB that a thread of Rust has by
 //! default; a thread whose stack is too small ends the process, as any stack overflow does. The calls
 //! of [`Planner`] and [`Host`] but [`Planner::shown`] allocate nothing.

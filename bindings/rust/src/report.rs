@@ -56,7 +56,7 @@ impl HeldBy {
 
 /// Tells what held each inner junction of a tape, in order: one fewer than blocks, none without a
 /// block. A junction whose planned speed equals its cap is held by the first of feed, corner and chord
-/// that equals it, any other by the reach. Needs under 280 kB of stack.
+/// that equals it, any other by the reach. Needs under 180 kB of stack.
 ///
 /// # Errors
 ///
@@ -155,7 +155,7 @@ impl Report {
     }
 
     /// Plans a tape as [`plan_tape`](crate::plan_tape) does, adds it to the report, and gives the
-    /// tape's own figures. Needs under 280 kB of stack.
+    /// tape's own figures. Needs under 180 kB of stack.
     ///
     /// # Errors
     ///

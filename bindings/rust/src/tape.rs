@@ -156,7 +156,7 @@ pub fn plan_tape(tape: &[u8], steps: &Steps<'_>) -> Result<Vec<u64>, Fault> {
     Ok(list)
 }
 
-/// Lists a tape that is planned as by [`plan_tape`]: a row for each block, in order. Needs under 280 kB
+/// Lists a tape that is planned as by [`plan_tape`]: a row for each block, in order. Needs under 180 kB
 /// of stack.
 ///
 /// # Errors

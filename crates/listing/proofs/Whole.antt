@@ -9,8 +9,10 @@ use native.Mathlib.Omega.{arith}
 use lib.ListN.{length, length-append}
 use Rattle.profile.specs.Line.{numberAt}
 use Rattle.display.specs.Display.{refusalNumber}
+use Rattle.display.proofs.Answers.{above-zero}
 use Rattle.tape.specs.Answers.{mostBlocks, tapeRefusal}
 use Rattle.tapeplan.specs.Planned.{plannedMeans, tapePlan, wholeRefusal}
+use Rattle.tapeplan.specs.Sheet.{over}
 use Rattle.tapeplan.proofs.Answered.{whole-passed}
 use Rattle.tapeplan.proofs.Plans.{accepted-records}
 use Rattle.tapeplan.proofs.Wholes.{planned-passed, planned-speeds}
@@ -26,6 +28,11 @@ use Rattle.listing.specs.declared.Listing.{Listing}
 use Rattle.listing.proofs.Lines.{linesFrom, lines-accepted, lines-beyond, lines-both, lines-some}
 use Rattle.listing.proofs.Answers.{listing-accepted, listing-refused}
 use Rattle.listing.proofs.Lengths.{header-length}
+
+-- A tape that is refused leaves the sheet and the plan that were lent.
+pub refused-leaves : {s loaded sheet sheet′ before after : List ℕ} {listing : Listing} → ListingFrom s loaded sheet sheet′ before after listing → 0 < wholeRefusal s loaded
+    → (sheet′ ≡ sheet) × (after ≡ before)
+refused-leaves {s} {loaded} {before} from h = (from .lent .kept h, from .lent .whole .list ∙ above-zero (over (tapePlan s loaded) before) before h)
 
 -- some parts and more of them
 parts-both : (listing : Listing) (sheet plan : List ℕ) (p n m : ℕ) → partsOf listing sheet plan p (n + m) ≡ partsOf listing sheet plan p n ++ partsOf listing sheet plan (p + n) m
