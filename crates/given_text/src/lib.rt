@@ -1,5 +1,4 @@
 // The line of a block given out: `mark length accel entry peak exit up cruise down`.
-ghost use mathlib.Core.Path.{_≡_};
 ghost use Prim.Native.Nat.{_+_, _≤_};
 ghost use lib.ListN.{length};
 ghost use Rattle.text.specs.Text.{row};

@@ -1,7 +1,7 @@
 -- A tape's listing in parts: what is kept of the tape, and the text of each part, whatever is kept.
 use mathlib.Core.Path.{_≡_}
 use mathlib.Core.Bool.{cond}
-use mathlib.Core.List.{List, _∷_, [], _++_}
+use mathlib.Core.List.{List, [], _++_}
 use Prim.Native.Nat.{ℕ, zero, suc, _+_, _-_, _*_, _/_, _<_, min}
 use lib.Dec.{ltb}
 use Rattle.profile.specs.Line.{numberAt}

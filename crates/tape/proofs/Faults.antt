@@ -5,20 +5,15 @@ use native.Mathlib.Nat.{add-zero, zero-add}
 use native.Mathlib.Numerals.{add-one}
 use native.Mathlib.Omega.{arith}
 use mathlib.Core.List.{List, _∷_}
-use lib.Dec.{lit<}
-use lib.ListN.{length, drop, getD, length-drop, drop-of-length-le}
+use lib.ListN.{length, drop, getD, drop-of-length-le}
 use lib.Seq.{getD-drop}
 use Rattle.machine.specs.Checks.{blockRefusal}
 use Rattle.machine.specs.declared.Block.{Block}
-use Rattle.tape.specs.Tape.{blockAt, recordBytes, recordStart, recordAt, recordsIn, blocksFrom, tapeBlocks}
-use Rattle.display.specs.Display.{given, refused, refusalNumber, Fault, _at_, _else_}
-use Rattle.tape.specs.Answers.{recordReadRefusal, readRecord, readAt, faultFrom, headRefusal, tapeFault, tapeRefusal}
+use Rattle.tape.specs.Tape.{recordAt, recordsIn, blocksFrom, tapeBlocks}
+use Rattle.display.specs.Display.{refusalNumber, Fault, _at_, _else_}
+use Rattle.tape.specs.Answers.{faultFrom, headRefusal, tapeFault, tapeRefusal}
 use Rattle.display.specs.declared.Refusal.{Refusal}
-use Rattle.display.specs.declared.Refusal.the-variants as why
-use Rattle.display.proofs.Answers.{at-zero, above-zero, refusal-above, refused-is, refuses-by, then-first}
-use Rattle.tape.proofs.Answers.{too-few}
-use Rattle.tape.proofs.Checks.{record-long}
-use Rattle.tape.proofs.Trips.{record-taken}
+use Rattle.display.proofs.Answers.{at-zero, above-zero, refusal-above}
 
 -- Blocks from record j on: how many, and the one that k records later begins the rest.
 length-from : (s : List ℕ) (k n : ℕ) → length (blocksFrom s k n) ≡ n
@@ -65,25 +60,6 @@ module _ (s : List ℕ) where
   getD-blocks {k} d h =
       ap (λ (i : ℕ). getD (tapeBlocks s) i d) (sym (add-zero k)) ∙ sym (getD-drop k (tapeBlocks s) 0 d)
       ∙ ap (λ (t : List Block). getD t 0 d) (drop-blocks h)
-
-  -- Reading record k gives that record, which passes, or its refusal.
-  pub read-given : (k : ℕ) {b : Block} → readAt s k ≡ given b → (recordAt s k ≡ b) × (blockRefusal b ≡ 0)
-  read-given k e = record-taken (drop (recordStart k) s) e .1
-
-  pub read-refused : {k n : ℕ} → k < recordsIn s → readAt s k ≡ refused n → (0 < n) × (blockRefusal (recordAt s k) ≡ n)
-  unfolding readRecord
-  read-refused {k} h e =
-      let part = drop (recordStart k) s in
-      let r = refused-is (blockAt part) (recordReadRefusal part) (recordReadRefusal part) (sym e) in
-      (rw (← r .1) at (r .0), sym (record-long part (omega (arith, length-drop (recordStart k) s))) ∙ sym (r .1))
-
-  -- There is none behind the last.
-  pub read-beyond : {k : ℕ} → recordsIn s ≤ k → refused 9 ≡ readAt s k
-  unfolding readRecord recordReadRefusal
-  read-beyond {k} h =
-      let part = drop (recordStart k) s in
-      let short = too-few recordBytes part (omega (arith, length-drop (recordStart k) s)) in
-      refuses-by (blockAt part) why.Ragged (then-first _ (rw short (lit< tt)) ∙ short)
 
   -- The records before record k have passed: the fault of all is that of the others.
   abbrev pub PassedBefore : ℕ → Type 0

@@ -76,10 +76,6 @@ recordMeans (rec.Refused why) = refused (refusalNumber why)
 unfoldable pub readRecord : List ℕ → Outcome ℕ Block
 readRecord s = orRefused (recordReadRefusal s) (blockAt s)
 
--- and in its place: record k of a tape, k counted from 0; one that is not there is refused by 9
-abbrev pub readAt : List ℕ → (k : ℕ) → Outcome ℕ Block
-readAt s k = readRecord (drop (recordStart k) s)
-
 -- the records in turn: the first fault of these blocks, the first of which has place p
 unfoldable pub faultFrom : (p : ℕ) → List Block → Fault
 faultFrom p [] = 0 at 0

@@ -6,7 +6,7 @@ ghost use Rattle.fields.specs.Layouts.{InWidths};
 ghost use Rattle.fields.specs.Bytes.{withBytes};
 ghost use Rattle.fields.specs.Fields.{Bits};
 ghost use Rattle.tape.specs.Tape.{blockAt, blockFields, blockNumber, recordAt, recordBytes, recordLayout, recordStart, recordsIn};
-ghost use Rattle.tape.specs.Answers.{readAt, readRecord, recordMeans, recordWriteRefusal, recordWritten, tapeWriteRefusal, tapeWritten, Wrote};
+ghost use Rattle.tape.specs.Answers.{readRecord, recordMeans, recordWriteRefusal, recordWritten, tapeWriteRefusal, tapeWritten, Wrote};
 use crate::LIMITS_BYTES;
 use crate::RECORD_BYTES;
 use crate::RecordRead;
@@ -142,17 +142,6 @@ pub fn block_at(s: &[u8], k: usize) -> Block
 {
     let from = LIMITS_BYTES + RECORD_BYTES * k;
     decode_record(&s[from..])
-}
-
-// Reads record k of a tape, k counted from 0, wherever the tape ends: 9 where that is before the record does, then 2 to 6.
-pub fn record_at(s: &[u8], k: usize) -> RecordRead
-    ensures { λ r. ⌜ recordMeans r ≡ readAt (now (s .entry)) k ⌝ }
-{
-    if k < records_in(s) {
-        let from = LIMITS_BYTES + RECORD_BYTES * k;
-        return read_record(&s[from..]);
-    }
-    RecordRead::Refused(Refusal::Ragged)
 }
 
 // Writes a block as record k of a tape, k counted from 0: the writer of a record is lent the part that begins at that

@@ -63,11 +63,6 @@ module _ (s loaded : List ℕ) where
       let own = tape-passed s e in
       whole-records (own .0) f ∙ sym (fault-records s (own .0)) ∙ tape-faultless s (own .0) (own .1)
 
-  -- A tape that is planned has passed them.
-  pub plan-passed : (lent : ℕ) → planFault s loaded lent .number ≡ 0 → wholeRefusal s loaded ≡ 0
-  unfolding planFault
-  plan-passed lent z = neither (wholeRefusal s loaded) (wholeFault s loaded .place) (cond (eqb lent (recordsIn s + 1)) 0 11 at 0) z .0
-
 module _ (s loaded before : List ℕ) where
   -- refused with a number and a place
   refused-by : (r : Refusal) (p : ℕ) → planFault s loaded (length before) ≡ refusalNumber r at p → PlannedTape s loaded before before (Refused r p)

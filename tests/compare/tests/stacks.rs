@@ -12,7 +12,7 @@ use reference::tape::{Tape, LIMITS_BYTES, MOST_BLOCKS, RECORD_BYTES};
 
 /// Kilobytes of stack, of 1,024 bytes, as the README says.
 const PLANLIST: u64 = 220;
-const PLANREPORT: u64 = 220;
+const PLANREPORT: u64 = 240;
 const NGCTAPE: u64 = 512;
 
 /// What the program, started with arguments on so small a stack, writes for an

@@ -2,7 +2,6 @@
 use mathlib.Core.Path.{refl, sym, ap, _∙_}
 use native.Mathlib.Omega.{arith}
 use Rattle.display.specs.Display.{Fault}
-use Rattle.display.proofs.Answers.{refusal-above}
 use Rattle.tapeplan.specs.Planned.{plannedMeans}
 use Rattle.tapeplan.proofs.Wholes.{whole-refused}
 use borrow.Author.Needs.{needs}

@@ -1,9 +1,9 @@
 -- `passes::forward_pass` meets its contract. The invariant: up to junction k the list holds the forward pass, behind it the backward pass.  The measure is what is left.
 use borrow.Author.Needs.{needs}
-use mathlib.Core.Path.{_≡_, _∙_, sym}
+use mathlib.Core.Path.{_≡_}
 use native.Mathlib.Omega.{arith}
 use mathlib.Core.List.{List}
-use Prim.Native.Nat.{ℕ, _+_, _-_, _<_, _≤_, zero-le}
+use Prim.Native.Nat.{ℕ, _+_, _-_, _<_, _≤_}
 use lib.ListN.{length, set, length-set}
 use Rattle.profile.specs.Line.{numberAt}
 use Rattle.profile.specs.Passes.{exitFrom, forward}
