@@ -5,13 +5,13 @@ ghost use mathlib.Core.List.{_++_, map};
 ghost use lib.ListN.{length};
 ghost use Rattle.io.specs.Counts.{Counts};
 ghost use Rattle.text.specs.Store.{Stored};
-ghost use Rattle.arguments.specs.Lines.{aroundSize, failedLine, lacksLine, lineOf, nameSize, readsInput, shownAs, wrongLine};
+ghost use Rattle.arguments.specs.Lines.{aroundSize, failedLine, lineOf, missingLine, nameSize, shownAs, wrongLine};
 use crate::Fault;
-use crate::Form;
-use crate::Needer;
-use crate::words::read_word;
+use crate::scan::read_word;
 use libc::STDERR_FILENO;
 use libc::STDOUT_FILENO;
+use options::kinds::STEPS;
+use options::kinds::WIDTH;
 use text::behind;
 use text::put_bytes;
 
@@ -74,24 +74,13 @@ fn store_line(line: &mut [u8], program: &[u8], matter: &[u8], word: &[u8], rest:
     store(line, quoted, rest)
 }
 
-// Whether a program of this form reads standard input.
-fn reads_input(form: Form) -> bool
-    ensures { λ r. ⌜ r ≡ readsInput form ⌝ }
-{
-    match form {
-        Form::Steps => true,
-        Form::Name => true,
-        Form::Names => false,
-    }
-}
-
-// Stores the line that names a wrong word.
-fn store_wrong(line: &mut [u8], program: &[u8], form: Form, word: &[u8]) -> usize
+// Stores the line that names a wrong word of a program that reads standard input, or does not.
+fn store_wrong(line: &mut [u8], program: &[u8], reads: bool, word: &[u8]) -> usize
     requires { ⌜ length (now program) + length (now word) + aroundSize ≤ length (now line) ⌝ }
-    ensures { λ r. ⌜ Stored (now (line .entry)) 0 (wrongLine (now (program .entry)) form (now (word .entry))) r (now (line .exit)) ⌝ }
+    ensures { λ r. ⌜ Stored (now (line .entry)) 0 (wrongLine (now (program .entry)) reads (now (word .entry))) r (now (line .exit)) ⌝ }
 {
     let matter = b": unexpected argument '";
-    if reads_input(form) {
+    if reads {
         store_line(
             line,
             program,
@@ -113,19 +102,25 @@ fn store_matter(line: &mut [u8], program: &[u8], matter: &[u8]) -> usize
     store(line, named, matter)
 }
 
-// Stores the line of a file's name that is missing: behind `--steps`, or where the program needs it.
-fn store_lacks(line: &mut [u8], program: &[u8], needer: Needer) -> usize
+// Stores the line of what is missing: behind the option of this kind, or among the other words, which may be numbers.
+fn store_missing(line: &mut [u8], program: &[u8], numbers: bool, kind: u8) -> usize
     requires { ⌜ length (now program) + aroundSize ≤ length (now line) ⌝ }
-    ensures { λ r. ⌜ Stored (now (line .entry)) 0 (lacksLine (now (program .entry)) needer) r (now (line .exit)) ⌝ }
+    ensures { λ r. ⌜ Stored (now (line .entry)) 0 (missingLine (now (program .entry)) numbers kind) r (now (line .exit)) ⌝ }
 {
-    match needer {
-        Needer::Option => store_matter(
+    if kind == STEPS {
+        return store_matter(
             line,
             program,
             b": '--steps' needs the name of a file, see --help\n",
-        ),
-        Needer::Program => store_matter(line, program, b": needs the name of a file, see --help\n"),
+        );
     }
+    if kind == WIDTH {
+        return store_matter(line, program, b": '--width' needs a number, see --help\n");
+    }
+    if numbers {
+        return store_matter(line, program, b": needs more numbers, see --help\n");
+    }
+    store_matter(line, program, b": needs the name of a file, see --help\n")
 }
 
 // Stores the line of a file that could not be opened or read, up to the system's reason.
@@ -149,22 +144,22 @@ fn read_shown(place: usize, word: &mut [u8]) -> usize
 }
 
 // Says which word is wrong, as much of it as is shown.
-pub fn say_wrong(program: &[u8], form: Form, place: usize)
+pub fn say_wrong(program: &[u8], reads: bool, place: usize)
     requires { ⌜ length (now program) ≤ nameSize ⌝ }
 {
     let mut word = [0u8; WORD];
     let got = read_shown(place, &mut word);
     let mut line = [0u8; LINE];
-    let end = store_wrong(&mut line, program, form, &word[..got]);
+    let end = store_wrong(&mut line, program, reads, &word[..got]);
     io::write_all(STDERR_FILENO, &line[..end]);
 }
 
-// Says that the name of a file is missing.
-pub fn say_lacks(program: &[u8], needer: Needer)
+// Says what is missing.
+pub fn say_missing(program: &[u8], numbers: bool, kind: u8)
     requires { ⌜ length (now program) ≤ nameSize ⌝ }
 {
     let mut line = [0u8; LINE];
-    let end = store_lacks(&mut line, program, needer);
+    let end = store_missing(&mut line, program, numbers, kind);
     io::write_all(STDERR_FILENO, &line[..end]);
 }
 
