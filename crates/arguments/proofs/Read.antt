@@ -1,5 +1,5 @@
 -- So many bytes as were read are in the list.
-use mathlib.Core.List.{List}
+use mathlib.Core.List.{List, map}
 use mathlib.Core.Path.{_≡_, refl, sym, ap, subst, _∙_}
 use Prim.Native.Nat.{ℕ, _≤_}
 use lib.ListN.{length, take}
@@ -8,7 +8,8 @@ use Rattle.options.specs.Scan.{askedBy, noneSeen, seenFrom}
 use Rattle.options.specs.declared.Asked.the-variants as asked
 use Rattle.options.specs.declared.Form.{Form}
 use Rattle.options.specs.declared.Seen.{Seen}
-use Rattle.options.specs.declared.Word.{Word}
+use Rattle.options.specs.Kinds.{wordOf}
+use Rattle.options.proofs.Asks.{work-asked-is}
 use Rattle.arguments.specs.declared.FileRead.{FileRead}
 use Rattle.arguments.specs.declared.FileRead.the-variants.{Bytes, Failed}
 use Rattle.arguments.specs.declared.Start.{Start}
@@ -40,8 +41,9 @@ start-carried f s (at.Bytes named n) room e h = (h, refl, e)
 start-carried f s at.Told room e h = tt
 
 -- what is left for a program whose words were read
-pub carried-started : (f : Form) (seen : Seen) (words : List Word) (room : ℕ) (left : Start) → seen ≡ seenFrom f noneSeen 1 words → Carried f seen room left → Started f room left
-carried-started f seen words room (Work s n) e h = (h .0, record { words = words; is = h .1 ∙ e; work = ap (askedBy f) (h .1) ∙ h .2 })
+pub carried-started : (f : Form) (seen : Seen) (words : List (List ℕ)) (room : ℕ) (left : Start) → seen ≡ seenFrom f noneSeen 1 (map wordOf words) → Carried f seen room left → Started f room left
+carried-started f seen words room (Work s n) e h =
+    (h .0, record { words = words; is = h .1 ∙ e; work = work-asked-is f words .0 (ap (askedBy f) (sym e) ∙ h .2) })
 carried-started f seen words room Done e h = tt
 
 -- so many bytes as a start says are in the list, and the part of the list that they are has as many

@@ -13,7 +13,7 @@ abbrev pub fileOf : Input → FileRead
 fileOf (input.Bytes n) = Bytes n
 fileOf input.Failed = Failed Unread
 
--- the bytes of a file and of its name; nothing where it failed
+-- the bytes of a file and of its name; nothing if it failed
 abbrev pub atOf : FileRead → (named : ℕ) → FileAt
 atOf (Bytes n) named = at.Bytes named n
 atOf (Failed fault) named = at.Told

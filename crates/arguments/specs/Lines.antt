@@ -1,4 +1,4 @@
--- The lines that are told on standard error, as ASCII bytes.
+-- The lines that are written, as ASCII bytes: on standard error what is wrong, on standard output the version.
 use Prim.Native.Nat.{ℕ}
 use mathlib.Core.Bool.{Bool, true, false, cond}
 use mathlib.Core.List.{List, _∷_, _++_, []}
@@ -35,11 +35,10 @@ advice false = 39 ∷ 59 ∷ 32 ∷ 115 ∷ 101 ∷ 101 ∷ 32 ∷ 45 ∷ 45 ∷
 unfoldable pub wrongLine : (program : List ℕ) (reads : Bool) (word : List ℕ) → List ℕ
 wrongLine program reads word = lineOf program unexpected word (advice reads)
 
--- `: '--steps' needs the name of a file, see --help` and a line feed
+-- `: '--steps' needs the name of a file, see --help` and a line feed, and the same of `--width`, which needs a number
 unfoldable pub stepsNeed : List ℕ
 stepsNeed = 58 ∷ 32 ∷ 39 ∷ 45 ∷ 45 ∷ 115 ∷ 116 ∷ 101 ∷ 112 ∷ 115 ∷ 39 ∷ 32 ∷ 110 ∷ 101 ∷ 101 ∷ 100 ∷ 115 ∷ 32 ∷ 116 ∷ 104 ∷ 101 ∷ 32 ∷ 110 ∷ 97 ∷ 109 ∷ 101 ∷ 32 ∷ 111 ∷ 102 ∷ 32 ∷ 97 ∷ 32 ∷ 102 ∷ 105 ∷ 108 ∷ 101 ∷ 44 ∷ 32 ∷ 115 ∷ 101 ∷ 101 ∷ 32 ∷ 45 ∷ 45 ∷ 104 ∷ 101 ∷ 108 ∷ 112 ∷ 10 ∷ []
 
--- `: '--width' needs a number, see --help` and a line feed
 unfoldable pub widthNeeds : List ℕ
 widthNeeds = 58 ∷ 32 ∷ 39 ∷ 45 ∷ 45 ∷ 119 ∷ 105 ∷ 100 ∷ 116 ∷ 104 ∷ 39 ∷ 32 ∷ 110 ∷ 101 ∷ 101 ∷ 100 ∷ 115 ∷ 32 ∷ 97 ∷ 32 ∷ 110 ∷ 117 ∷ 109 ∷ 98 ∷ 101 ∷ 114 ∷ 44 ∷ 32 ∷ 115 ∷ 101 ∷ 101 ∷ 32 ∷ 45 ∷ 45 ∷ 104 ∷ 101 ∷ 108 ∷ 112 ∷ 10 ∷ []
 
@@ -50,7 +49,14 @@ needsMore false = 58 ∷ 32 ∷ 110 ∷ 101 ∷ 101 ∷ 100 ∷ 115 ∷ 32 ∷ 1
 
 -- the line of what is missing: what an option of this kind needs, or another word
 unfoldable pub missingLine : (program : List ℕ) (numbers : Bool) (kind : ℕ) → List ℕ
-missingLine program numbers kind = program ++ cond (eqb kind 2) stepsNeed (cond (eqb kind 3) widthNeeds (needsMore numbers))
+missingLine program numbers kind = lineOf program (cond (eqb kind 3) stepsNeed (cond (eqb kind 4) widthNeeds (needsMore numbers))) [] []
+
+-- the version of the programs, 0.11.0, and the line that has it
+unfoldable pub versionText : List ℕ
+versionText = 48 ∷ 46 ∷ 49 ∷ 49 ∷ 46 ∷ 48 ∷ []
+
+unfoldable pub versionLine : (program : List ℕ) → List ℕ
+versionLine program = lineOf program (32 ∷ []) versionText (10 ∷ [])
 
 -- `: cannot open '`
 unfoldable pub cannotOpen : List ℕ

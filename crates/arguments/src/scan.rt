@@ -1,7 +1,7 @@
 // The words that a program is started with, read one after the other.
 ghost use mathlib.Core.Path.{_≡_};
 ghost use Rattle.io.specs.Counts.{Counts};
-ghost use Rattle.arguments.specs.Starts.{SeenBefore};
+ghost use Rattle.arguments.specs.Starts.{SeenBefore, WordRead};
 use options::Form;
 use options::Seen;
 use options::Word;
@@ -25,7 +25,9 @@ pub fn read_word(place: usize, word: &mut [u8]) -> usize
 }
 
 // The word at a place. One that is too long is judged by its beginning.
-fn word_at(place: usize) -> Word {
+fn word_at(place: usize) -> Word
+    ensures { λ r. ⌜ WordRead r ⌝ }
+{
     let mut word = [0u8; WORD];
     let got = read_word(place, &mut word);
     word_of(&word[..got])

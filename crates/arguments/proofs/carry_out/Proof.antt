@@ -10,11 +10,14 @@ use Rattle.arguments.proofs.carry_out.Statement.{statement}
 use Rattle.arguments.proofs.carry_out.Tie as tie
 
 -- as much of the name as is shown is in it
-named : (c : tie.After-smaller) → c .smaller .result ≡ length (take (c .smaller .result) (c .before .before .before .before .args .program .now))
+named : (c : tie.After-fewer) → c .fewer .result ≡ length (take (c .fewer .result) (c .before .before .before .before .args .program .now))
 named c = sym (length-take-le _ (c .before .before .before .before .args .program .now) (omega arith))
 
 read-named-requires : tie.Need-read-named-requires
 read-named-requires c κs = omega (arith, named (c .before .before .before .before .before .before))
+
+say-version-requires : tie.Need-say-version-requires
+say-version-requires c κs = omega (arith, named (c .before .before .before .before))
 
 say-wrong-requires : tie.Need-say-wrong-requires
 say-wrong-requires c κs = omega (arith, named (c .before .before .before .before .before))
@@ -34,21 +37,10 @@ pub carry-out-spec : {M : Type 1} → statement M
 carry-out-spec =
     tie.close
     (tie.spec
-    (λ c κs. search needs)
-    (λ c. named (c .before))
-    (λ c κs. search needs)
-    (λ c. search needs)
-    (λ c κs. search needs)
-    read-named-requires
-    (λ c κs. search needs)
-    (λ c. search needs)
-    returns
-    (λ c. search needs)
-    (λ c κs. search needs)
-    (λ c. search needs)
-    say-wrong-requires
-    (λ c. search needs)
-    say-missing-requires
-    (λ c. search needs)
-    (λ c. search needs)
-    (λ c. search needs))
+    (λ c κs. search needs) (λ c. named (c .before)) (λ c κs. search needs)
+    (λ c. search needs) (λ c κs. search needs) read-named-requires (λ c κs. search needs) (λ c. search needs) returns
+    (λ c. search needs) (λ c κs. search needs)
+    (λ c. search needs) say-version-requires
+    (λ c. search needs) say-wrong-requires
+    (λ c. search needs) say-missing-requires
+    (λ c. search needs) (λ c. search needs) (λ c. search needs) (λ c. search needs))

@@ -22,7 +22,7 @@ loop-holds c = (omega arith, omega arith, subst (SeenBefore (c .before .args .fo
 loop-again : tie.Need-loop-again Inv-loop μ-loop
 loop-again c =
     let l = c .before .before .before in
-    (omega arith, omega arith, one-further _ (l .loop .place) (l .loop .seen) _ (c .before .word-at .result) (l .loop .inv .0) (l .loop .inv .2) (c .with-word .ensures))
+    (omega arith, omega arith, one-further _ (l .loop .place) (l .loop .seen) _ (c .before .word-at .result) (l .loop .inv .0) (l .loop .inv .2) (c .before .word-at .ensures) (c .with-word .ensures))
 
 returns : tie.Need-returns Inv-loop μ-loop
 returns c = all-before _ (c .before .loop .place) _ _ (omega arith) (c .before .loop .inv .2)
