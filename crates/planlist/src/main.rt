@@ -9,9 +9,9 @@ use listing::Listing;
 use listing::PARTS;
 use listing::TEXT;
 use options::Form;
-use outputs::say_error;
 use streams::Input;
 use streams::read_input;
+use streams::say_error;
 use tape::MOST_BYTES;
 use tapeplan::sheet::SHEET;
 

@@ -11,13 +11,13 @@ use arguments::words_end;
 use libc::PATH_MAX;
 use options::Form;
 use options::MANY;
-use outputs::say;
-use outputs::say_error;
 use report::NUMBERS;
 use report::lines::LINE;
 use report::lines::put_all;
 use report::lines::put_header;
 use report::lines::put_tape;
+use streams::say;
+use streams::say_error;
 use tape::MOST_BYTES;
 use text::behind;
 

@@ -1,9 +1,9 @@
--- `outputs::say` is safe: the part has n bytes.
+-- `streams::say` is safe: the part has n bytes.
 use native.Mathlib.Omega.{arith}
 use lib.ListN.{length-take}
 use borrow.Author.Needs.{needs}
-use Rattle.outputs.proofs.say.Statement.{statement}
-use Rattle.outputs.proofs.say.Tie as tie
+use Rattle.streams.proofs.say.Statement.{statement}
+use Rattle.streams.proofs.say.Tie as tie
 
 slice-aggregate-write-all : tie.Need-slice-aggregate-write-all
 slice-aggregate-write-all c = simp length-take (omega arith)

@@ -1,9 +1,9 @@
--- `outputs::say_refused` is safe: the place behind a text that was stored lies in its list.
+-- `streams::say_refused` is safe: the place behind a text that was stored lies in its list.
 use native.Mathlib.Omega.{arith}
 use Rattle.text.proofs.Store.{was-stored, within}
 use borrow.Author.Needs.{needs}
-use Rattle.outputs.proofs.say_refused.Statement.{statement}
-use Rattle.outputs.proofs.say_refused.Tie as tie
+use Rattle.streams.proofs.say_refused.Statement.{statement}
+use Rattle.streams.proofs.say_refused.Tie as tie
 
 say-requires : tie.Need-say-requires
 say-requires c κs =
