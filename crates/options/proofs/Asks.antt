@@ -1,11 +1,11 @@
 -- WHAT A COMMAND LINE ASKS FOR: the work, the usage and the version are asked for exactly by the words that `Line` describes.
-use mathlib.Core.Logic.{_↔_, _⊎_, inl, inr}
-use mathlib.Core.Path.{_≡_, refl, sym, ap, subst, _∙_}
+use mathlib.Core.Logic.{_↔_}
+use mathlib.Core.Path.{_≡_, refl, sym, ap, subst}
 use mathlib.Core.Bool.{Bool, true, false, cond}
 use mathlib.Core.List.{List, map}
-use Prim.Native.Nat.{ℕ, zero, suc, _+_, _≤_, _<_}
+use Prim.Native.Nat.{ℕ, zero, suc, _≤_}
 use native.Mathlib.Omega.{arith}
-use borrow.Author.Tests.{ltb-false, le-ltb, lt-ltb}
+use borrow.Author.Tests.{ltb-false, le-ltb}
 use lib.Dec.{ltb}
 use lib.ListN.{length}
 use Rattle.options.specs.declared.Form.{Form}
@@ -14,10 +14,9 @@ use Rattle.options.specs.declared.Asked.{Asked}
 use Rattle.options.specs.declared.Asked.the-variants.{Work, Usage, Version, Wrong, Missing}
 use Rattle.options.specs.Kinds.{wordOf}
 use Rattle.options.specs.Scan.{asked, askedBy, noneSeen}
-use Rattle.options.specs.Line.{AsksUsage, AsksVersion, AsksWork, CommandLine, line, times}
-use Rattle.options.proofs.Sorts.{test}
+use Rattle.options.specs.Line.{AsksUsage, AsksVersion, AsksWork, CommandLine, line}
 use Rattle.options.proofs.Ends.{Clear, Ends, flag, flag-none, line-end, mark, scan}
-use Rattle.options.proofs.Backs.{Back, line-back}
+use Rattle.options.proofs.Backs.{line-back}
 
 -- what an answer says of the words that were seen
 abbrev Says : Form → Seen → Asked → Type 0

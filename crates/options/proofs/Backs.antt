@@ -2,10 +2,10 @@
 use mathlib.Core.Logic.{_⊎_, inl, inr}
 use mathlib.Core.Path.{_≡_, refl, sym, ap, subst, _∙_}
 use mathlib.Core.Bool.{Bool, true, false, not, _&&_, _||_}
-use mathlib.Core.List.{List, _∷_, map, []}
+use mathlib.Core.List.{List, _∷_, []}
 use Prim.Native.Nat.{ℕ, zero, suc, _+_, _≤_, _<_}
 use native.Mathlib.Omega.{arith}
-use borrow.Author.Tests.{eq-eqb, ne-eqb, eqb-true, lt-ltb, ltb-true}
+use borrow.Author.Tests.{ne-eqb, eqb-true, lt-ltb, ltb-true}
 use lib.Dec.{eqb, ltb}
 use lib.ListN.{length}
 use Rattle.options.specs.declared.Form.{Form}
@@ -13,7 +13,7 @@ use Rattle.options.specs.declared.Word.{Word}
 use Rattle.options.specs.declared.Seen.{Seen}
 use Rattle.options.specs.Kinds.{helpWord, versionWord, stepsWord, widthWord, dashed, word, wordOf}
 use Rattle.options.specs.Scan.{isOpen, isOption, isTaken, otherAt, seenFrom, stepsAt, tellsAt, widthAt, withOption, withOther, withValue, withWord, wrongAt, waitingFor}
-use Rattle.options.specs.Line.{Option, help, version, steps, width, Known, Number, Taken, line, times}
+use Rattle.options.specs.Line.{Option, help, version, steps, width, Known, Number, Taken, line}
 use Rattle.options.proofs.Tests.{both-true}
 use Rattle.options.proofs.Sorts.{test, sort-of, Sort}
 use Rattle.options.proofs.Sorts as sort

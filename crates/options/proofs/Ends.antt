@@ -1,19 +1,19 @@
 -- What is seen once a command line has ended, by its options and other words.
 use mathlib.Core.Logic.{_⊎_, inl, inr}
 use mathlib.Core.Path.{_≡_, refl, sym, ap, subst, _∙_}
-use mathlib.Core.Bool.{Bool, true, false, not, _&&_, _||_}
+use mathlib.Core.Bool.{Bool, true, false, _&&_}
 use mathlib.Core.List.{List, _∷_, map, []}
 use Prim.Native.Nat.{ℕ, zero, suc, _+_, _≤_, _<_}
 use native.Mathlib.Omega.{arith}
 use native.Mathlib.Numerals.{add-one}
-use borrow.Author.Tests.{eq-eqb, ne-eqb, eqb-true, lt-ltb}
+use borrow.Author.Tests.{ne-eqb, lt-ltb}
 use lib.Dec.{eqb, ltb}
 use lib.ListN.{length}
 use Rattle.options.specs.declared.Form.{Form}
 use Rattle.options.specs.declared.Word.{Word}
 use Rattle.options.specs.declared.Seen.{Seen}
-use Rattle.options.specs.Kinds.{helpWord, versionWord, stepsWord, widthWord, same, dashed, optionOf, word, wordOf}
-use Rattle.options.specs.Scan.{isOpen, isOption, isTaken, otherAt, seenFrom, stepsAt, tellsAt, widthAt, withOption, withOther, withValue, withWord, wrongAt}
+use Rattle.options.specs.Kinds.{same, dashed, optionOf, word, wordOf}
+use Rattle.options.specs.Scan.{isOpen, isOption, otherAt, seenFrom, stepsAt, tellsAt, widthAt, withOption, withOther, withValue, withWord}
 use Rattle.options.specs.Line.{Option, help, version, steps, width, Known, Number, Taken, line, times}
 use Rattle.options.proofs.Sorts.{test, sort-of}
 use Rattle.options.proofs.Sorts as sort

@@ -1,14 +1,13 @@
 -- What a word is by its bytes, as the scanner takes it. From the definitions of kinds.
 use mathlib.Core.Logic.{_⊎_, inl, inr}
-use mathlib.Core.Path.{_≡_, refl, sym, ap, _∙_}
-use mathlib.Core.Bool.{Bool, true, false, cond}
+use mathlib.Core.Path.{_≡_, refl, sym, _∙_}
+use mathlib.Core.Bool.{Bool, true, false}
 use mathlib.Core.List.{List, _∷_, []}
-use Prim.Native.Nat.{ℕ, zero, suc, _+_, _-_, _*_, _^_, _≤_, _<_}
+use Prim.Native.Nat.{ℕ, _+_, _-_, _*_, _^_, _≤_, _<_}
 use native.Mathlib.Omega.{arith}
-use borrow.Author.Tests.{eq-eqb, ne-eqb, eqb-true, le-leb, leb-true, leb-false}
+use borrow.Author.Tests.{eq-eqb, eqb-true, le-leb, leb-true}
 use lib.Dec.{eqb, leb}
 use lib.ListN.{length}
-use lib.Pow.{pow-add}
 use Rattle.options.specs.Kinds.{helpWord, versionWord, stepsWord, widthWord, same, dashed, isDigit, none, valueFrom, numberOf, optionOf, word, wordOf}
 use Rattle.options.specs.Line.{Digits, Number}
 use Rattle.options.proofs.Tests.{same-is, digit-in, ten-below, ten-next}

@@ -1,9 +1,8 @@
 -- `arguments::carry_out` meets its contract: the bytes are those of `read_named`, and as much of the name as is shown is in it.
-use mathlib.Core.Path.{_≡_, sym, subst, _∙_}
+use mathlib.Core.Path.{_≡_, sym, _∙_}
 use native.Mathlib.Omega.{arith}
 use lib.ListN.{length, take}
 use lib.Seq.{length-take-le}
-use Rattle.arguments.specs.Starts.{Carried}
 use Rattle.arguments.proofs.Read.{start-carried}
 use borrow.Author.Needs.{needs}
 use Rattle.arguments.proofs.carry_out.Statement.{statement}
@@ -39,8 +38,6 @@ carry-out-spec =
     (tie.spec
     (λ c κs. search needs) (λ c. named (c .before)) (λ c κs. search needs)
     (λ c. search needs) (λ c κs. search needs) read-named-requires (λ c κs. search needs) (λ c. search needs) returns
-    (λ c. search needs) (λ c κs. search needs)
-    (λ c. search needs) say-version-requires
-    (λ c. search needs) say-wrong-requires
-    (λ c. search needs) say-missing-requires
+    (λ c. search needs) (λ c κs. search needs) (λ c. search needs) say-version-requires
+    (λ c. search needs) say-wrong-requires (λ c. search needs) say-missing-requires
     (λ c. search needs) (λ c. search needs) (λ c. search needs) (λ c. search needs))

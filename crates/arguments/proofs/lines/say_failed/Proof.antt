@@ -29,14 +29,6 @@ pub say-failed-spec : {M : Type 1} → statement M
 say-failed-spec =
     tie.close
     (tie.spec
-    (λ c κs. search needs)
-    (λ c κs. search needs)
-    (λ c. search needs)
-    (λ c. search needs)
-    slice-aggregate-store-failed-2
-    store-failed-requires
-    array-share-prefix-line
-    slice-aggregate-fail
-    (λ c κs. search needs)
-    (λ c. search needs)
-    (λ c. search needs))
+    (λ c κs. search needs) (λ c κs. search needs) (λ c. search needs) (λ c. search needs)
+    slice-aggregate-store-failed-2 store-failed-requires array-share-prefix-line slice-aggregate-fail
+    (λ c κs. search needs) (λ c. search needs) (λ c. search needs))

@@ -15,9 +15,5 @@ pub say-missing-spec : {M : Type 1} → statement M
 say-missing-spec =
     tie.close
     (tie.spec
-    (λ c. search needs)
-    (λ c κs. search needs)
-    array-share-prefix-line
-    slice-aggregate-write-all
-    (λ c κs. search needs)
-    (λ c. search needs))
+    (λ c. search needs) (λ c κs. search needs) array-share-prefix-line slice-aggregate-write-all
+    (λ c κs. search needs) (λ c. search needs))

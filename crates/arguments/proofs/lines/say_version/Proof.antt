@@ -9,7 +9,6 @@ pub say-version-spec : {M : Type 1} → statement M
 say-version-spec =
     tie.close
     (tie.spec
-    (λ c. search needs) (λ c κs. search needs)
-    (λ c. within (c .before .store-version .ensures) zero-le)
+    (λ c. search needs) (λ c κs. search needs) (λ c. within (c .before .store-version .ensures) zero-le)
     (λ c. length-front (c .before .before .store-version .ensures))
     (λ c κs. search needs) (λ c. search needs) (λ c κs. search needs) (λ c. search needs) (λ c. search needs))

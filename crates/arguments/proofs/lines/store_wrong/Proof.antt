@@ -1,5 +1,4 @@
 -- `arguments::lines::store_wrong` meets its contract: its lines are those of `store_line`.
-use mathlib.Core.Path.{sym, _∙_}
 use Rattle.arguments.specs.Lines.{advice, unexpected, wrongLine}
 use borrow.Author.Needs.{needs}
 use Rattle.arguments.proofs.lines.store_wrong.Statement.{statement}

@@ -1,10 +1,8 @@
 -- `arguments::scan::read_seen`: a turn looks at one word more, from `one-further`.
-use mathlib.Core.Path.{_≡_, sym, subst}
-use Prim.Native.Nat.{ℕ, suc, _+_, _-_, _≤_, _<_}
+use mathlib.Core.Path.{sym, subst}
+use Prim.Native.Nat.{_-_, _≤_}
 use native.Mathlib.Omega.{arith}
-use native.Mathlib.Numerals.{add-one}
 use borrow.Author.Needs.{needs}
-use Rattle.options.specs.declared.Seen.{Seen}
 use Rattle.arguments.specs.Starts.{SeenBefore}
 use Rattle.arguments.proofs.Scans.{none-before, one-further, all-before}
 use Rattle.arguments.proofs.scan.read_seen.Statement.{statement}
@@ -31,13 +29,5 @@ pub read-seen-spec : {M : Type 1} → statement M
 read-seen-spec =
     tie.close
     (tie.spec
-    Inv-loop
-    μ-loop
-    (λ c κs. search needs)
-    loop-holds
-    (λ c κs. search needs)
-    (λ c κs. search needs)
-    (λ c. search needs)
-    (λ c. search needs)
-    loop-again
-    returns)
+    Inv-loop μ-loop (λ c κs. search needs) loop-holds (λ c κs. search needs) (λ c κs. search needs)
+    (λ c. search needs) (λ c. search needs) loop-again returns)
