@@ -1,4 +1,3 @@
--- The laws of what words ask for, of what is shown, and of the bytes that were read.
-pub mod Asks
 pub mod Read
 pub mod Replaced
+pub mod Scans

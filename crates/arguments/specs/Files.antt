@@ -3,8 +3,6 @@ use Prim.Native.Nat.{ℕ, _≤_}
 use Rattle.streams.specs.declared.Input.{Input}
 use Rattle.streams.specs.declared.Input.the-variants as input
 use Rattle.arguments.specs.declared.Fault.the-variants.{Unread}
-use Rattle.arguments.specs.declared.Order.{Order}
-use Rattle.arguments.specs.declared.Order.the-variants.{Work, Done}
 use Rattle.arguments.specs.declared.FileRead.{FileRead}
 use Rattle.arguments.specs.declared.FileRead.the-variants.{Bytes, Failed}
 use Rattle.arguments.specs.declared.FileAt.{FileAt}
@@ -15,15 +13,10 @@ abbrev pub fileOf : Input → FileRead
 fileOf (input.Bytes n) = Bytes n
 fileOf input.Failed = Failed Unread
 
--- the bytes of a file and of its name; nothing where it failed
+-- the bytes of a file and of its name; nothing if it failed
 abbrev pub atOf : FileRead → (named : ℕ) → FileAt
 atOf (Bytes n) named = at.Bytes named n
 atOf (Failed fault) named = at.Told
-
--- the program's work, with so many bytes of the file; nothing where it failed
-abbrev pub orderOf : FileAt → Order
-orderOf (at.Bytes named n) = Work n
-orderOf at.Told = Done
 
 -- the bytes that were read have room in the list that is lent
 abbrev pub Within : (room : ℕ) → FileRead → Type 0
@@ -33,3 +26,7 @@ Within room (Failed fault) = Unit {0}
 abbrev pub AtWithin : (names room : ℕ) → FileAt → Type 0
 AtWithin names room (at.Bytes named n) = (named ≤ names) × (n ≤ room)
 AtWithin names room at.Told = Unit {0}
+
+abbrev pub ListWithin : (room : ℕ) → FileAt → Type 0
+ListWithin room (at.Bytes named n) = n ≤ room
+ListWithin room at.Told = Unit {0}

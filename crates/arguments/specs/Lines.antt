@@ -1,14 +1,10 @@
--- The lines that are told on standard error, as ASCII bytes.
+-- The lines that are written, as ASCII bytes: on standard error what is wrong, on standard output the version.
 use Prim.Native.Nat.{ℕ}
 use mathlib.Core.Bool.{Bool, true, false, cond}
 use mathlib.Core.List.{List, _∷_, _++_, []}
 use lib.Dec.{ltb, eqb}
 use Rattle.arguments.specs.declared.Fault.{Fault}
 use Rattle.arguments.specs.declared.Fault.the-variants.{Unopened, Unread}
-use Rattle.arguments.specs.declared.Form.{Form}
-use Rattle.arguments.specs.declared.Form.the-variants.{Steps, Name, Names}
-use Rattle.arguments.specs.declared.Needer.{Needer}
-use Rattle.arguments.specs.declared.Needer.the-variants.{Option, Program}
 
 -- how a byte is shown in a line: one of the control characters as `?`
 unfoldable pub shownAs : ℕ → ℕ
@@ -30,33 +26,37 @@ lineOf program matter word rest = program ++ matter ++ word ++ rest
 unfoldable pub unexpected : List ℕ
 unexpected = 58 ∷ 32 ∷ 117 ∷ 110 ∷ 101 ∷ 120 ∷ 112 ∷ 101 ∷ 99 ∷ 116 ∷ 101 ∷ 100 ∷ 32 ∷ 97 ∷ 114 ∷ 103 ∷ 117 ∷ 109 ∷ 101 ∷ 110 ∷ 116 ∷ 32 ∷ 39 ∷ []
 
--- whether a program of this form reads standard input
-abbrev pub readsInput : Form → Bool
-readsInput Steps = true
-readsInput Name = true
-readsInput Names = false
-
 -- `'; it reads standard input, see --help` and a line feed, or without the first sentence
 unfoldable pub advice : (reads : Bool) → List ℕ
 advice true = 39 ∷ 59 ∷ 32 ∷ 105 ∷ 116 ∷ 32 ∷ 114 ∷ 101 ∷ 97 ∷ 100 ∷ 115 ∷ 32 ∷ 115 ∷ 116 ∷ 97 ∷ 110 ∷ 100 ∷ 97 ∷ 114 ∷ 100 ∷ 32 ∷ 105 ∷ 110 ∷ 112 ∷ 117 ∷ 116 ∷ 44 ∷ 32 ∷ 115 ∷ 101 ∷ 101 ∷ 32 ∷ 45 ∷ 45 ∷ 104 ∷ 101 ∷ 108 ∷ 112 ∷ 10 ∷ []
 advice false = 39 ∷ 59 ∷ 32 ∷ 115 ∷ 101 ∷ 101 ∷ 32 ∷ 45 ∷ 45 ∷ 104 ∷ 101 ∷ 108 ∷ 112 ∷ 10 ∷ []
 
 -- the line that names a wrong word
-unfoldable pub wrongLine : (program : List ℕ) → Form → (word : List ℕ) → List ℕ
-wrongLine program form word = lineOf program unexpected word (advice (readsInput form))
+unfoldable pub wrongLine : (program : List ℕ) (reads : Bool) (word : List ℕ) → List ℕ
+wrongLine program reads word = lineOf program unexpected word (advice reads)
 
--- `needs the name of a file, see --help` and a line feed
-abbrev pub needsName : List ℕ
-needsName = 110 ∷ 101 ∷ 101 ∷ 100 ∷ 115 ∷ 32 ∷ 116 ∷ 104 ∷ 101 ∷ 32 ∷ 110 ∷ 97 ∷ 109 ∷ 101 ∷ 32 ∷ 111 ∷ 102 ∷ 32 ∷ 97 ∷ 32 ∷ 102 ∷ 105 ∷ 108 ∷ 101 ∷ 44 ∷ 32 ∷ 115 ∷ 101 ∷ 101 ∷ 32 ∷ 45 ∷ 45 ∷ 104 ∷ 101 ∷ 108 ∷ 112 ∷ 10 ∷ []
+-- `: '--steps' needs the name of a file, see --help` and a line feed, and the same of `--width`, which needs a number
+unfoldable pub stepsNeed : List ℕ
+stepsNeed = 58 ∷ 32 ∷ 39 ∷ 45 ∷ 45 ∷ 115 ∷ 116 ∷ 101 ∷ 112 ∷ 115 ∷ 39 ∷ 32 ∷ 110 ∷ 101 ∷ 101 ∷ 100 ∷ 115 ∷ 32 ∷ 116 ∷ 104 ∷ 101 ∷ 32 ∷ 110 ∷ 97 ∷ 109 ∷ 101 ∷ 32 ∷ 111 ∷ 102 ∷ 32 ∷ 97 ∷ 32 ∷ 102 ∷ 105 ∷ 108 ∷ 101 ∷ 44 ∷ 32 ∷ 115 ∷ 101 ∷ 101 ∷ 32 ∷ 45 ∷ 45 ∷ 104 ∷ 101 ∷ 108 ∷ 112 ∷ 10 ∷ []
 
--- what needs it: `: '--steps' ` before that, or `: ` where it is the program
-unfoldable pub lacking : Needer → List ℕ
-lacking Option = 58 ∷ 32 ∷ 39 ∷ 45 ∷ 45 ∷ 115 ∷ 116 ∷ 101 ∷ 112 ∷ 115 ∷ 39 ∷ 32 ∷ needsName
-lacking Program = 58 ∷ 32 ∷ needsName
+unfoldable pub widthNeeds : List ℕ
+widthNeeds = 58 ∷ 32 ∷ 39 ∷ 45 ∷ 45 ∷ 119 ∷ 105 ∷ 100 ∷ 116 ∷ 104 ∷ 39 ∷ 32 ∷ 110 ∷ 101 ∷ 101 ∷ 100 ∷ 115 ∷ 32 ∷ 97 ∷ 32 ∷ 110 ∷ 117 ∷ 109 ∷ 98 ∷ 101 ∷ 114 ∷ 44 ∷ 32 ∷ 115 ∷ 101 ∷ 101 ∷ 32 ∷ 45 ∷ 45 ∷ 104 ∷ 101 ∷ 108 ∷ 112 ∷ 10 ∷ []
 
--- the line of a file's name that is missing
-unfoldable pub lacksLine : (program : List ℕ) → Needer → List ℕ
-lacksLine program needer = program ++ lacking needer
+-- `: needs more numbers, see --help` and a line feed, or `: needs the name of a file, see --help`
+unfoldable pub needsMore : (numbers : Bool) → List ℕ
+needsMore true = 58 ∷ 32 ∷ 110 ∷ 101 ∷ 101 ∷ 100 ∷ 115 ∷ 32 ∷ 109 ∷ 111 ∷ 114 ∷ 101 ∷ 32 ∷ 110 ∷ 117 ∷ 109 ∷ 98 ∷ 101 ∷ 114 ∷ 115 ∷ 44 ∷ 32 ∷ 115 ∷ 101 ∷ 101 ∷ 32 ∷ 45 ∷ 45 ∷ 104 ∷ 101 ∷ 108 ∷ 112 ∷ 10 ∷ []
+needsMore false = 58 ∷ 32 ∷ 110 ∷ 101 ∷ 101 ∷ 100 ∷ 115 ∷ 32 ∷ 116 ∷ 104 ∷ 101 ∷ 32 ∷ 110 ∷ 97 ∷ 109 ∷ 101 ∷ 32 ∷ 111 ∷ 102 ∷ 32 ∷ 97 ∷ 32 ∷ 102 ∷ 105 ∷ 108 ∷ 101 ∷ 44 ∷ 32 ∷ 115 ∷ 101 ∷ 101 ∷ 32 ∷ 45 ∷ 45 ∷ 104 ∷ 101 ∷ 108 ∷ 112 ∷ 10 ∷ []
+
+-- the line of what is missing: what an option of this kind needs, or another word
+unfoldable pub missingLine : (program : List ℕ) (numbers : Bool) (kind : ℕ) → List ℕ
+missingLine program numbers kind = lineOf program (cond (eqb kind 3) stepsNeed (cond (eqb kind 4) widthNeeds (needsMore numbers))) [] []
+
+-- the version of the programs, 0.11.0, and the line that has it
+unfoldable pub versionText : List ℕ
+versionText = 48 ∷ 46 ∷ 49 ∷ 49 ∷ 46 ∷ 48 ∷ []
+
+unfoldable pub versionLine : (program : List ℕ) → List ℕ
+versionLine program = lineOf program (32 ∷ []) versionText (10 ∷ [])
 
 -- `: cannot open '`
 unfoldable pub cannotOpen : List ℕ

@@ -1,17 +1,18 @@
-// What is told: the usage, or in one line on standard error what is wrong.
+// What is written: the usage or the version, or in one line on standard error what is wrong.
 ghost use mathlib.Core.Path.{_≡_};
-ghost use Prim.Native.Nat.{_+_, _≤_, min};
-ghost use mathlib.Core.List.{_++_, map};
+ghost use Prim.Native.Nat.{_+_, _≤_};
+ghost use mathlib.Core.List.{map};
 ghost use lib.ListN.{length};
 ghost use Rattle.io.specs.Counts.{Counts};
 ghost use Rattle.text.specs.Store.{Stored};
-ghost use Rattle.arguments.specs.Lines.{aroundSize, failedLine, lacksLine, lineOf, nameSize, readsInput, shownAs, wrongLine};
+ghost use Rattle.arguments.specs.Lines.{aroundSize, failedLine, lineOf, missingLine, nameSize, shownAs, versionLine, wrongLine};
 use crate::Fault;
-use crate::Form;
-use crate::Needer;
-use crate::words::read_word;
+use crate::scan::read_word;
+use arith::whole::fewer;
 use libc::STDERR_FILENO;
 use libc::STDOUT_FILENO;
+use options::kinds::STEPS;
+use options::kinds::WIDTH;
 use text::behind;
 use text::put_bytes;
 
@@ -23,13 +24,6 @@ const WORD: usize = 256;
 const AROUND: usize = 62;
 // Bytes of the longest line.
 const LINE: usize = NAME + WORD + AROUND;
-
-// The smaller of two numbers.
-pub fn smaller(a: usize, b: usize) -> usize
-    ensures { λ r. ⌜ r ≡ min a b ⌝ }
-{
-    if a < b { a } else { b }
-}
 
 // How a byte is shown in a line: a control character, such as a line feed, as a question mark.
 fn shown(byte: u8) -> u8
@@ -63,7 +57,7 @@ fn store(line: &mut [u8], at: usize, part: &[u8]) -> usize
     behind(put_bytes(line, at, part), at)
 }
 
-// Stores a line about a word: what is the matter before it, and the rest behind it.
+// Stores a line: what is the matter, the word that it is about, and the rest after it.
 fn store_line(line: &mut [u8], program: &[u8], matter: &[u8], word: &[u8], rest: &[u8]) -> usize
     requires { ⌜ length (now program) + length (now matter) + length (now word) + length (now rest) ≤ length (now line) ⌝ }
     ensures { λ r. ⌜ Stored (now (line .entry)) 0 (lineOf (now (program .entry)) (now (matter .entry)) (now (word .entry)) (now (rest .entry))) r (now (line .exit)) ⌝ }
@@ -74,24 +68,13 @@ fn store_line(line: &mut [u8], program: &[u8], matter: &[u8], word: &[u8], rest:
     store(line, quoted, rest)
 }
 
-// Whether a program of this form reads standard input.
-fn reads_input(form: Form) -> bool
-    ensures { λ r. ⌜ r ≡ readsInput form ⌝ }
-{
-    match form {
-        Form::Steps => true,
-        Form::Name => true,
-        Form::Names => false,
-    }
-}
-
-// Stores the line that names a wrong word.
-fn store_wrong(line: &mut [u8], program: &[u8], form: Form, word: &[u8]) -> usize
+// Stores the line that names a wrong word of a program that reads standard input, or does not.
+fn store_wrong(line: &mut [u8], program: &[u8], reads: bool, word: &[u8]) -> usize
     requires { ⌜ length (now program) + length (now word) + aroundSize ≤ length (now line) ⌝ }
-    ensures { λ r. ⌜ Stored (now (line .entry)) 0 (wrongLine (now (program .entry)) form (now (word .entry))) r (now (line .exit)) ⌝ }
+    ensures { λ r. ⌜ Stored (now (line .entry)) 0 (wrongLine (now (program .entry)) reads (now (word .entry))) r (now (line .exit)) ⌝ }
 {
     let matter = b": unexpected argument '";
-    if reads_input(form) {
+    if reads {
         store_line(
             line,
             program,
@@ -104,28 +87,34 @@ fn store_wrong(line: &mut [u8], program: &[u8], form: Form, word: &[u8]) -> usiz
     }
 }
 
-// Stores a line that is about no word: the program's name, and what is the matter.
-fn store_matter(line: &mut [u8], program: &[u8], matter: &[u8]) -> usize
-    requires { ⌜ length (now program) + length (now matter) ≤ length (now line) ⌝ }
-    ensures { λ r. ⌜ Stored (now (line .entry)) 0 (now (program .entry) ++ now (matter .entry)) r (now (line .exit)) ⌝ }
+// Stores the line of what is missing: after the option of this kind, or among the other words, which may be numbers.
+fn store_missing(line: &mut [u8], program: &[u8], numbers: bool, kind: u8) -> usize
+    requires { ⌜ length (now program) + aroundSize ≤ length (now line) ⌝ }
+    ensures { λ r. ⌜ Stored (now (line .entry)) 0 (missingLine (now (program .entry)) numbers kind) r (now (line .exit)) ⌝ }
 {
-    let named = store(line, 0, program);
-    store(line, named, matter)
+    let steps = b": '--steps' needs the name of a file, see --help\n";
+    if kind == STEPS {
+        return store_line(line, program, steps, b"", b"");
+    }
+    let width = b": '--width' needs a number, see --help\n";
+    if kind == WIDTH {
+        return store_line(line, program, width, b"", b"");
+    }
+    let more = b": needs more numbers, see --help\n";
+    if numbers {
+        return store_line(line, program, more, b"", b"");
+    }
+    let name = b": needs the name of a file, see --help\n";
+    store_line(line, program, name, b"", b"")
 }
 
-// Stores the line of a file's name that is missing: behind `--steps`, or where the program needs it.
-fn store_lacks(line: &mut [u8], program: &[u8], needer: Needer) -> usize
+// Stores the line of the version, which is the header's: a test of the house compares the two.
+fn store_version(line: &mut [u8], program: &[u8]) -> usize
     requires { ⌜ length (now program) + aroundSize ≤ length (now line) ⌝ }
-    ensures { λ r. ⌜ Stored (now (line .entry)) 0 (lacksLine (now (program .entry)) needer) r (now (line .exit)) ⌝ }
+    ensures { λ r. ⌜ Stored (now (line .entry)) 0 (versionLine (now (program .entry))) r (now (line .exit)) ⌝ }
 {
-    match needer {
-        Needer::Option => store_matter(
-            line,
-            program,
-            b": '--steps' needs the name of a file, see --help\n",
-        ),
-        Needer::Program => store_matter(line, program, b": needs the name of a file, see --help\n"),
-    }
+    let version = b"0.11.0";
+    store_line(line, program, b" ", version, b"\n")
 }
 
 // Stores the line of a file that could not be opened or read, up to the system's reason.
@@ -149,22 +138,22 @@ fn read_shown(place: usize, word: &mut [u8]) -> usize
 }
 
 // Says which word is wrong, as much of it as is shown.
-pub fn say_wrong(program: &[u8], form: Form, place: usize)
+pub fn say_wrong(program: &[u8], reads: bool, place: usize)
     requires { ⌜ length (now program) ≤ nameSize ⌝ }
 {
     let mut word = [0u8; WORD];
     let got = read_shown(place, &mut word);
     let mut line = [0u8; LINE];
-    let end = store_wrong(&mut line, program, form, &word[..got]);
+    let end = store_wrong(&mut line, program, reads, &word[..got]);
     io::write_all(STDERR_FILENO, &line[..end]);
 }
 
-// Says that the name of a file is missing.
-pub fn say_lacks(program: &[u8], needer: Needer)
+// Says what is missing.
+pub fn say_missing(program: &[u8], numbers: bool, kind: u8)
     requires { ⌜ length (now program) ≤ nameSize ⌝ }
 {
     let mut line = [0u8; LINE];
-    let end = store_lacks(&mut line, program, needer);
+    let end = store_missing(&mut line, program, numbers, kind);
     io::write_all(STDERR_FILENO, &line[..end]);
 }
 
@@ -174,16 +163,32 @@ pub fn say_failed(program: &[u8], fault: Fault, name: &mut [u8])
     requires { ⌜ length (now program) ≤ nameSize ⌝ }
 {
     show(name);
-    let named = smaller(name.len(), WORD);
+    let named = fewer(name.len(), WORD);
     let mut line = [0u8; LINE];
     let end = store_failed(&mut line, program, fault, &name[..named]);
     os::fail(&line[..end]);
 }
 
+// Says that standard output did not take a text.
+fn say_untaken(program: &[u8], matter: &[u8]) {
+    io::write_all(STDERR_FILENO, program);
+    io::write_all(STDERR_FILENO, matter);
+}
+
 // Writes the usage to standard output.
 pub fn say_usage(program: &[u8], usage: &[u8]) {
     if !io::write_all(STDOUT_FILENO, usage) {
-        io::write_all(STDERR_FILENO, program);
-        io::write_all(STDERR_FILENO, b": standard output did not take the usage\n");
+        say_untaken(program, b": standard output did not take the usage\n");
+    }
+}
+
+// Writes the program's name and version to standard output.
+pub fn say_version(program: &[u8])
+    requires { ⌜ length (now program) ≤ nameSize ⌝ }
+{
+    let mut line = [0u8; LINE];
+    let end = store_version(&mut line, program);
+    if !io::write_all(STDOUT_FILENO, &line[..end]) {
+        say_untaken(program, b": standard output did not take the version\n");
     }
 }

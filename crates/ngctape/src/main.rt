@@ -2,13 +2,14 @@
 // record for each block of the text; or the one line of the refusal, that of the limits before anything of the text. Where
 // the text is too long, the input cannot be read to its end, or the output does not take the whole tape, a line on standard
 // error says so.
-use arguments::Order;
-use arguments::read_file_order;
+use arguments::Start;
+use arguments::read_start;
 use libc::STDOUT_FILENO;
-use outputs::say_error;
+use options::Form;
 use rs274::tapes::text_tape;
 use streams::Input;
 use streams::read_input;
+use streams::say_error;
 use tape::LIMITS_BYTES;
 use tape::LimitsRead;
 use tape::MOST_BYTES;
@@ -56,17 +57,25 @@ fn write_limited(limits: &[u8]) {
 
 fn main() {
     let mut limits = [0u8; LIMITS_BYTES];
-    let order = read_file_order(
+    let start = read_start(
         b"ngctape",
         b"usage: ngctape LIMITS < text\n\
         Makes a tape of RS-274 text: words N, G0, G1, G20, G21, G90, G91, X, Y, Z and F.\n\
         Writes 24 bytes of limits and 16 for each block; planlist lists such a tape.\n\
         A text that is refused gives `refused N at P`: P is the line from 1, or 0.\n\
         LIMITS: a file that begins with 24 bytes of limits, as every tape does.\n",
+        Form {
+            steps: false,
+            width: false,
+            least: 1,
+            most: 1,
+            numbers: false,
+            input: true,
+        },
         &mut limits,
     );
-    match order {
-        Order::Work(n) => write_limited(&limits[..n]),
-        Order::Done => return,
+    match start {
+        Start::Work(_, n) => write_limited(&limits[..n]),
+        Start::Done => return,
     }
 }

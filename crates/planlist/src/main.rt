@@ -1,16 +1,17 @@
 // Lists the tape of standard input, planned with the torque steps of the file that `--steps` names, or the built-in ones:
 // document 01's listing, or the one line of its refusal. Where the input cannot be read to
 // its end, or the output does not take the whole text, a line on standard error says so.
-use arguments::Order;
 use arguments::STEPS;
-use arguments::read_order;
+use arguments::Start;
+use arguments::read_start;
 use libc::STDOUT_FILENO;
 use listing::Listing;
 use listing::PARTS;
 use listing::TEXT;
-use outputs::say_error;
+use options::Form;
 use streams::Input;
 use streams::read_input;
+use streams::say_error;
 use tape::MOST_BYTES;
 use tapeplan::sheet::SHEET;
 use tapeplan::whole::JUNCTIONS;
@@ -50,17 +51,25 @@ fn list_input(steps: &[u8]) {
 
 fn main() {
     let mut steps = [0u8; STEPS];
-    let order = read_order(
+    let start = read_start(
         b"planlist",
         b"usage: planlist [--steps FILE] < tape\n\
         Plans a whole tape and writes a header and a line for each block, in tape order.\n\
         Lengths are um, accel is um/s^2; entry, peak and exit are squared speeds.\n\
         A tape that is refused gives `refused N at P`: P is the record from 1, or 0.\n\
         FILE: the owner's 8 torque percentages, a byte each; if none or empty, built-in.\n",
+        Form {
+            steps: true,
+            width: false,
+            least: 0,
+            most: 0,
+            numbers: false,
+            input: true,
+        },
         &mut steps,
     );
-    match order {
-        Order::Work(n) => list_input(&steps[..n]),
-        Order::Done => return,
+    match start {
+        Start::Work(_, n) => list_input(&steps[..n]),
+        Start::Done => return,
     }
 }

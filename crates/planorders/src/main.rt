@@ -4,23 +4,24 @@
 // the plan, and the patterns of the host's point. Orders with no whole limits, or limits or steps that do
 // not pass, get the one line `refused` with number and place 0. Orders that end inside an event get such
 // a line in that event's place, with its place counted from 1, and then the three closing lines.
-use arguments::Order;
 use arguments::STEPS;
-use arguments::read_order;
+use arguments::Start;
+use arguments::read_start;
 use display::Checked;
 use display::refusal_number;
 use machine::Limits;
+use options::Form;
 use order_text::EVENT_BYTES;
 use order_text::EVENTS;
-use outputs::say;
-use outputs::say_cut;
-use outputs::say_error;
-use outputs::say_refused;
 use planner::NUMBERS;
 use replay_text::TEXT;
 use streams::Input;
 use streams::cut_at;
 use streams::read_input;
+use streams::say;
+use streams::say_cut;
+use streams::say_error;
+use streams::say_refused;
 use tape::LIMITS_BYTES;
 use tape::LimitsRead;
 
@@ -149,17 +150,25 @@ fn run_input(steps: &[u8]) {
 
 fn main() {
     let mut steps = [0u8; STEPS];
-    let order = read_order(
+    let start = read_start(
         b"planorders",
         b"usage: planorders [--steps FILE] < orders\n\
         Runs orders and takes: `added`, `refused N`, or the block as planlist lists it;\n\
         then `held N`, `plan` and its numbers, and `point` and the bits of X, Y and Z.\n\
         Refused limits or steps give `refused N at 0`; a cut event K, `refused 9 at K`.\n\
         FILE: the owner's 8 torque percentages, a byte each; if none or empty, built-in.\n",
+        Form {
+            steps: true,
+            width: false,
+            least: 0,
+            most: 0,
+            numbers: false,
+            input: true,
+        },
         &mut steps,
     );
-    match order {
-        Order::Work(n) => run_input(&steps[..n]),
-        Order::Done => return,
+    match start {
+        Start::Work(_, n) => run_input(&steps[..n]),
+        Start::Done => return,
     }
 }

@@ -4,22 +4,23 @@
 // plan. A trace with no whole limits, or limits or steps that do not pass, gets the one line `refused`
 // with number and place 0. A trace that ends inside a call gets such a line in that call's place, with
 // its place counted from 1, and then the two closing lines.
-use arguments::Order;
 use arguments::STEPS;
-use arguments::read_order;
+use arguments::Start;
+use arguments::read_start;
 use display::Checked;
 use display::refusal_number;
 use machine::Limits;
-use outputs::say;
-use outputs::say_cut;
-use outputs::say_error;
-use outputs::say_refused;
+use options::Form;
 use planner::NUMBERS;
 use replay::CALL_BYTES;
 use replay_text::TEXT;
 use streams::Input;
 use streams::cut_at;
 use streams::read_input;
+use streams::say;
+use streams::say_cut;
+use streams::say_error;
+use streams::say_refused;
 use tape::LIMITS_BYTES;
 use tape::LimitsRead;
 
@@ -132,17 +133,25 @@ fn replay_input(steps: &[u8]) {
 
 fn main() {
     let mut steps = [0u8; STEPS];
-    let order = read_order(
+    let start = read_start(
         b"planreplay",
         b"usage: planreplay [--steps FILE] < trace\n\
         Runs recorded calls and writes a line for each: `added`, `refused N`, or the\n\
         block given out as planlist lists it; then `held N`, and `plan` and its numbers.\n\
         Refused limits or steps give `refused N at 0`; a cut call K, `refused 9 at K`.\n\
         FILE: the owner's 8 torque percentages, a byte each; if none or empty, built-in.\n",
+        Form {
+            steps: true,
+            width: false,
+            least: 0,
+            most: 0,
+            numbers: false,
+            input: true,
+        },
         &mut steps,
     );
-    match order {
-        Order::Work(n) => replay_input(&steps[..n]),
-        Order::Done => return,
+    match start {
+        Start::Work(_, n) => replay_input(&steps[..n]),
+        Start::Done => return,
     }
 }

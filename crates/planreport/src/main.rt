@@ -3,19 +3,21 @@
 // read is told on standard error; it has no line and counts nowhere. Where the output does not take a line, a line on standard
 // error says so, and nothing follows.
 use arguments::FileAt;
-use arguments::NamesOrder;
 use arguments::STEPS;
+use arguments::Start;
 use arguments::read_file_at;
-use arguments::read_names_order;
+use arguments::read_start;
 use arguments::words_end;
 use libc::PATH_MAX;
-use outputs::say;
-use outputs::say_error;
+use options::Form;
+use options::MANY;
 use report::NUMBERS;
 use report_text::LINE;
 use report_text::put_all;
 use report_text::put_header;
 use report_text::put_tape;
+use streams::say;
+use streams::say_error;
 use tape::MOST_BYTES;
 use text::behind;
 
@@ -96,17 +98,25 @@ fn report_names(first: usize, steps: &[u8]) {
 
 fn main() {
     let mut steps = [0u8; STEPS];
-    let order = read_names_order(
+    let start = read_start(
         b"planreport",
         b"usage: planreport [--steps FILE] TAPE...\n\
         Plans each tape and writes a header, a line for each tape, and a line for all.\n\
         Length is um, peak a squared speed; feed, corner, chord, reach: junctions held.\n\
         A tape that is refused gives `refused N at P` and its name, and does not count.\n\
         FILE: the owner's 8 torque percentages, a byte each; if none or empty, built-in.\n",
+        Form {
+            steps: true,
+            width: false,
+            least: 1,
+            most: MANY,
+            numbers: false,
+            input: false,
+        },
         &mut steps,
     );
-    match order {
-        NamesOrder::Work(n, first) => report_names(first, &steps[..n]),
-        NamesOrder::Done => return,
+    match start {
+        Start::Work(seen, n) => report_names(seen.first, &steps[..n]),
+        Start::Done => return,
     }
 }

@@ -49,6 +49,17 @@ pub fn planreport() -> PathBuf {
     path("PLANREPORT", "planreport")
 }
 
+/// The version that the header has, by tools/version.
+pub fn header_version() -> String {
+    let tool = PathBuf::from(env!("CARGO_MANIFEST_DIR")).join("../../tools/version");
+    let output = Command::new(tool).output().expect("tools/version");
+    assert!(output.status.success(), "tools/version fails");
+    String::from_utf8(output.stdout)
+        .expect("text")
+        .trim_end()
+        .to_string()
+}
+
 /// Starts the program with its input and output; what it complains of is read.
 pub fn start(program: &PathBuf, input: Stdio, output: Stdio) -> Child {
     start_with(program, &[], input, output)

@@ -1,11 +1,11 @@
 //! What the programs do with arguments: planlist, planreplay and planorders
-//! have the options `--help` and `--steps FILE`, in any order and each at most
-//! once, and ngctape needs the name of one file of limits, with `--help` before
-//! it or not. Whatever else is there, and a file that cannot be opened or read,
-//! they tell in one line on standard error, and read and write nothing. What
-//! steps and limits do is not tested here: the files of steps are empty, those
-//! of limits machine M's, or they cannot be had. planreport, which reads no
-//! standard input, is in planreport.rs.
+//! have the options `--help`, `--version` and `--steps FILE`, in any order and
+//! each at most once, and ngctape needs the name of one file of limits, with
+//! `--help` and `--version` before it or not. Whatever else is there, and a file
+//! that cannot be opened or read, they report in one line on standard error, and
+//! read and write nothing. What steps and limits do is not tested here: the files
+//! of steps are empty, those of limits machine M's, or they cannot be had.
+//! planreport, which reads no standard input, is in planreport.rs.
 
 use std::ffi::OsStr;
 use std::fs::{self, File, Permissions};
@@ -32,7 +32,10 @@ const SHOWN: usize = 256;
 const LONGEST_NAME: usize = 4_095;
 
 const HELP: &[u8] = b"--help";
+const VERSION: &[u8] = b"--version";
 const STEPS: &[u8] = b"--steps";
+/// An option that no program takes.
+const WIDTH: &[u8] = b"--width";
 
 /// An empty file, one of limits, and a name that no file has.
 const EMPTY: &[u8] = b"empty.steps";
@@ -221,6 +224,15 @@ impl Tool {
         assert_eq!((output.errors.as_str(), read), ("", 0), "{words:?}");
     }
 
+    /// Panics unless the program writes its name and the header's version, and
+    /// nothing else happens.
+    fn expect_version(&self, words: &[&[u8]]) {
+        let (output, read) = self.run(words);
+        let line = format!("{} {}\n", self.name, header_version());
+        assert_eq!(String::from_utf8_lossy(&output.bytes), line, "{words:?}");
+        assert_eq!((output.errors.as_str(), read), ("", 0), "{words:?}");
+    }
+
     /// Panics unless the program tells this line, and nothing else happens.
     fn expect_told(&self, words: &[&[u8]], told: &str) {
         let (output, read) = self.run(words);
@@ -255,6 +267,7 @@ impl Tool {
             Asked::Work(Some(name)) if name == self.file => self.expect_work(words),
             Asked::Work(Some(name)) => self.expect_unopened(words, name, NO_FILE),
             Asked::Usage => self.expect_usage(words),
+            Asked::Version => self.expect_version(words),
             Asked::Wrong(word) => self.expect_wrong(words, word),
             Asked::Lacks => self.expect_told(words, self.lacks),
         }
@@ -275,6 +288,7 @@ enum Asked<'a> {
     /// The work, with the steps or the limits of a file.
     Work(Option<&'a [u8]>),
     Usage,
+    Version,
     /// Nothing that is known: this word is not expected.
     Wrong(&'a [u8]),
     /// The file is missing, that of `--steps` or of the limits.
@@ -284,12 +298,14 @@ enum Asked<'a> {
 /// What words ask for: of the options, each at most once, all that are left
 /// over are wrong, and the first of them decides.
 fn asked<'a>(words: &[&'a [u8]]) -> Asked<'a> {
-    let mut usage = false;
+    let (mut usage, mut version) = (false, false);
     let mut file = None;
     let mut left = words.iter();
     while let Some(word) = left.next() {
         if *word == HELP && !usage {
             usage = true;
+        } else if *word == VERSION && !version {
+            version = true;
         } else if *word == STEPS && file.is_none() {
             match left.next() {
                 Some(name) => file = Some(*name),
@@ -299,27 +315,29 @@ fn asked<'a>(words: &[&'a [u8]]) -> Asked<'a> {
             return Asked::Wrong(word);
         }
     }
-    if usage {
-        Asked::Usage
-    } else {
-        Asked::Work(file)
+    match file {
+        _ if usage => Asked::Usage,
+        _ if version => Asked::Version,
+        file => Asked::Work(file),
     }
 }
 
-/// What words ask of a program that needs one file: `--help` once or not, and
-/// then the file, whose name does not begin as an option does. The first word
-/// left over decides.
+/// What words ask of a program that needs one file: `--help` and `--version`
+/// once or not, and then the file, whose name does not begin as an option does.
+/// The first word left over decides.
 fn asked_by_name<'a>(words: &[&'a [u8]]) -> Asked<'a> {
-    let (mut usage, mut file) = (false, None);
+    let (mut usage, mut version, mut file) = (false, false, None);
     for word in words {
         match file {
             None if !word.starts_with(b"-") => file = Some(*word),
             None if *word == HELP && !usage => usage = true,
+            None if *word == VERSION && !version => version = true,
             _ => return Asked::Wrong(word),
         }
     }
     match file {
         _ if usage => Asked::Usage,
+        _ if version => Asked::Version,
         Some(name) => Asked::Work(Some(name)),
         None => Asked::Lacks,
     }
@@ -368,11 +386,26 @@ fn every_list_of_words_with_a_file_is_taken_as_it_asks() {
     report(all.len(), "lists of words with a file");
 }
 
+/// Every list of up to three words with the options that tell of a program, one
+/// that none takes, and a number, which is a name like any other.
+#[test]
+fn every_list_of_words_about_a_program_is_taken_as_it_asks() {
+    let mut count = 0;
+    for tool in tools() {
+        let words = [HELP, VERSION, STEPS, tool.file, WIDTH, b"7"];
+        for list in (0..=3).flat_map(|n| lists(&words, n)) {
+            tool.expect_asked(&list);
+            count += 1;
+        }
+    }
+    report(count, "lists of words about a program");
+}
+
 /// The same, one by one, as the rules have them.
 #[test]
 fn the_lists_of_words_are_those_of_the_rules() {
     let x: &[u8] = b"x";
-    let cases: [(&[&[u8]], Asked); 20] = [
+    let cases: [(&[&[u8]], Asked); 29] = [
         (&[], Asked::Work(None)),
         (&[STEPS, x], Asked::Work(Some(x))),
         (&[STEPS, HELP], Asked::Work(Some(HELP))),
@@ -393,6 +426,15 @@ fn the_lists_of_words_are_those_of_the_rules() {
         (&[STEPS, x, x, HELP], Asked::Wrong(x)),
         (&[HELP, STEPS, x, HELP], Asked::Wrong(HELP)),
         (&[STEPS, x, HELP, STEPS], Asked::Wrong(STEPS)),
+        (&[VERSION], Asked::Version),
+        (&[STEPS, x, VERSION], Asked::Version),
+        (&[VERSION, HELP], Asked::Usage),
+        (&[HELP, VERSION], Asked::Usage),
+        (&[STEPS, VERSION], Asked::Work(Some(VERSION))),
+        (&[VERSION, VERSION], Asked::Wrong(VERSION)),
+        (&[VERSION, STEPS], Asked::Lacks),
+        (&[VERSION, x], Asked::Wrong(x)),
+        (&[WIDTH, b"7"], Asked::Wrong(WIDTH)),
     ];
     for (words, expected) in &cases {
         assert_eq!(asked(words), *expected, "{words:?}");
@@ -407,7 +449,7 @@ fn the_lists_of_words_are_those_of_the_rules() {
 #[test]
 fn the_lists_of_words_with_a_file_are_those_of_the_rules() {
     let (x, y): (&[u8], &[u8]) = (b"x", b"-y");
-    let cases: [(&[&[u8]], Asked); 18] = [
+    let cases: [(&[&[u8]], Asked); 25] = [
         (&[], Asked::Lacks),
         (&[x], Asked::Work(Some(x))),
         (&[b""], Asked::Work(Some(b""))),
@@ -426,6 +468,13 @@ fn the_lists_of_words_with_a_file_are_those_of_the_rules() {
         (&[x, y], Asked::Wrong(y)),
         (&[HELP, y, x], Asked::Wrong(y)),
         (&[x, b"", y], Asked::Wrong(b"")),
+        (&[VERSION], Asked::Version),
+        (&[VERSION, x], Asked::Version),
+        (&[VERSION, HELP, x], Asked::Usage),
+        (&[VERSION, VERSION], Asked::Wrong(VERSION)),
+        (&[x, VERSION], Asked::Wrong(VERSION)),
+        (&[b"7"], Asked::Work(Some(b"7"))),
+        (&[WIDTH, b"7", x], Asked::Wrong(WIDTH)),
     ];
     for (words, expected) in &cases {
         assert_eq!(asked_by_name(words), *expected, "{words:?}");
@@ -435,7 +484,7 @@ fn the_lists_of_words_with_a_file_are_those_of_the_rules() {
 }
 
 /// Words that are no options, and no files here.
-const NO_OPTIONS: [&[u8]; 22] = [
+const NO_OPTIONS: [&[u8]; 30] = [
     b"file.tape",
     b"-",
     b"--",
@@ -452,6 +501,14 @@ const NO_OPTIONS: [&[u8]; 22] = [
     b"-steps",
     b"--steps ",
     b"--steps=empty.steps",
+    b"--versio",
+    b"--versions",
+    b"--VERSION",
+    b"--version=1",
+    WIDTH,
+    b"--width=7",
+    b"7",
+    b"-7",
     b"",
     b" ",
     b"two\nlines\r\n\tand \x1b[31mred\x7f",
@@ -493,7 +550,7 @@ fn a_long_word_is_told() {
             tool.expect_wrong(&[&word], &word);
         }
         // the beginning of a longer word that is an option is not that option
-        for option in [HELP, STEPS] {
+        for option in [HELP, STEPS, VERSION] {
             for length in [option.len() + 1, 16, 17, 2 * SHOWN] {
                 let mut word = option.to_vec();
                 word.resize(length, b' ');
@@ -501,7 +558,7 @@ fn a_long_word_is_told() {
             }
         }
     }
-    report(4 * (2 * lengths.len() + 8), "long words");
+    report(4 * (2 * lengths.len() + 12), "long words");
 }
 
 /// The word behind `--steps` is its file, whatever it is; a file that is named
@@ -684,18 +741,20 @@ fn help_alone_writes_the_usage() {
 }
 
 #[test]
-fn a_usage_that_cannot_be_written_is_told() {
+fn a_usage_or_version_that_cannot_be_written_is_told() {
     for tool in tools() {
-        let full = File::create("/dev/full").expect("/dev/full");
-        let child = tool
-            .command(&[HELP])
-            .stdin(Stdio::null())
-            .stdout(full)
-            .spawn();
-        let told = format!("{}: standard output did not take the usage\n", tool.name);
-        assert_eq!(written_by(child.expect("a program")).errors, told);
+        for (option, text) in [(HELP, "usage"), (VERSION, "version")] {
+            let full = File::create("/dev/full").expect("/dev/full");
+            let child = tool
+                .command(&[option])
+                .stdin(Stdio::null())
+                .stdout(full)
+                .spawn();
+            let told = format!("{}: standard output did not take the {text}\n", tool.name);
+            assert_eq!(written_by(child.expect("a program")).errors, told);
+        }
     }
-    report(4, "usages that could not be written");
+    report(8, "usages and versions that could not be written");
 }
 
 /// A program does its work whatever name it is started by.

@@ -18,7 +18,7 @@ use std::thread;
 use std::time::Duration;
 
 use compare::devices::{self, wait_for_read, Terminal};
-use compare::programs::{long_name, output_of, planreport, Output};
+use compare::programs::{header_version, long_name, output_of, planreport, Output};
 use compare::words::some_steps;
 use compare::{report as say, same, seeds};
 use reference::examples::{example, right_angle, what_held, NAMES};
@@ -32,6 +32,7 @@ const SHOWN: usize = 256;
 const LONGEST_NAME: usize = 4_095;
 
 const HELP: &[u8] = b"--help";
+const VERSION: &[u8] = b"--version";
 const STEPS: &[u8] = b"--steps";
 
 /// Why a file cannot be had: while it is opened or read, and the reason.
@@ -152,6 +153,10 @@ impl Folder {
                     (String::new(), usage),
                 );
             }
+            Asked::Version => {
+                let line = format!("planreport {}\n", header_version());
+                same(seed, input, (output.errors, &text), (String::new(), &line));
+            }
             Asked::Wrong(word) => {
                 let begin = format!("planreport: unexpected argument '{}'", shown(word));
                 expect_wrong(&output, &begin);
@@ -204,6 +209,7 @@ enum Asked<'a> {
     /// A report on the files, with the steps of a file or without.
     Work(Option<&'a [u8]>, Vec<&'a [u8]>),
     Usage,
+    Version,
     /// Nothing that is known: this word is not expected.
     Wrong(&'a [u8]),
     /// `--steps` is the last word.
@@ -215,7 +221,7 @@ enum Asked<'a> {
 /// What words ask for: options first, each at most once, then names, none of
 /// which begins as an option does. The first word that does not fit decides.
 fn asked<'a>(words: &[&'a [u8]]) -> Asked<'a> {
-    let (mut usage, mut steps, mut names) = (false, None, Vec::new());
+    let (mut usage, mut version, mut steps, mut names) = (false, false, None, Vec::new());
     let mut left = words.iter();
     while let Some(word) = left.next() {
         let before = names.is_empty();
@@ -223,6 +229,8 @@ fn asked<'a>(words: &[&'a [u8]]) -> Asked<'a> {
             names.push(*word);
         } else if before && *word == HELP && !usage {
             usage = true;
+        } else if before && *word == VERSION && !version {
+            version = true;
         } else if before && *word == STEPS && steps.is_none() {
             match left.next() {
                 Some(name) => steps = Some(*name),
@@ -234,6 +242,7 @@ fn asked<'a>(words: &[&'a [u8]]) -> Asked<'a> {
     }
     match names.is_empty() {
         _ if usage => Asked::Usage,
+        _ if version => Asked::Version,
         true => Asked::LacksName,
         false => Asked::Work(steps, names),
     }
@@ -280,7 +289,7 @@ fn every_list_of_words_is_taken_as_it_asks() {
 fn the_lists_of_words_are_those_of_the_rules() {
     let folder = small_folder("rules");
     let (x, y): (&[u8], &[u8]) = (b"pair", b"-x");
-    let cases: [(&[&[u8]], Asked); 22] = [
+    let cases: [(&[&[u8]], Asked); 29] = [
         (&[x], Asked::Work(None, vec![x])),
         (&[x, x], Asked::Work(None, vec![x, x])),
         (&[b""], Asked::Work(None, vec![b""])),
@@ -303,6 +312,16 @@ fn the_lists_of_words_are_those_of_the_rules() {
         (&[x, x, y], Asked::Wrong(y)),
         (&[HELP, HELP, x], Asked::Wrong(HELP)),
         (&[STEPS, x, STEPS, x, x], Asked::Wrong(STEPS)),
+        (&[VERSION], Asked::Version),
+        (&[VERSION, x, x], Asked::Version),
+        (&[VERSION, STEPS, x, HELP], Asked::Usage),
+        (&[VERSION, VERSION, x], Asked::Wrong(VERSION)),
+        (&[x, VERSION], Asked::Wrong(VERSION)),
+        (&[STEPS, VERSION, x], Asked::Work(Some(VERSION), vec![x])),
+        (
+            &[b"7", b"0000000007"],
+            Asked::Work(None, vec![b"7", b"0000000007"]),
+        ),
     ];
     for (words, expected) in &cases {
         assert_eq!(asked(words), *expected, "{words:?}");
@@ -316,7 +335,7 @@ fn the_lists_of_words_are_those_of_the_rules() {
 fn a_word_that_is_no_option_is_told() {
     let folder = small_folder("words");
     let long = [&b"-"[..], &b"a".repeat(100_000)].concat();
-    let words: [&[u8]; 16] = [
+    let words: [&[u8]; 18] = [
         b"-",
         b"--",
         b"-h",
@@ -330,6 +349,8 @@ fn a_word_that_is_no_option_is_told() {
         b"--steps=half",
         b"--steps ",
         b"--width",
+        b"--width=7",
+        b"--versions",
         b"-two\nlines\r\n\tand \x1b[31mred\x7f",
         b"-no text: \xff\xfe\x80\xc3",
         &long,

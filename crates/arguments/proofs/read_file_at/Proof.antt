@@ -8,7 +8,7 @@ use Rattle.arguments.proofs.read_file_at.Statement.{statement}
 use Rattle.arguments.proofs.read_file_at.Tie as tie
 
 -- as much of the name as is shown is in it
-named : (c : tie.After-smaller) → c .smaller .result ≡ length (take (c .smaller .result) (c .before .before .before .before .args .program .now))
+named : (c : tie.After-fewer) → c .fewer .result ≡ length (take (c .fewer .result) (c .before .before .before .before .args .program .now))
 named c = sym (length-take-le _ (c .before .before .before .before .args .program .now) (omega arith))
 
 read-at-requires : tie.Need-read-at-requires

@@ -1,15 +1,15 @@
 -- `planreport::main`: the steps that were read are in the list.
-use Rattle.arguments.proofs.Read.{names-within, part-sized}
+use Rattle.arguments.proofs.Read.{start-within, part-sized}
 use borrow.Author.Needs.{needs}
 use Rattle.planreport.proofs.main.Statement.{statement}
 use Rattle.planreport.proofs.main.Tie as tie
 
 array-share-prefix-steps : tie.Need-array-share-prefix-steps
-array-share-prefix-steps c = names-within (c .before .order .given .1) (c .before .before .before .before .read-names-order .ensures)
+array-share-prefix-steps c = start-within _ (c .before .start .given .1) (c .before .before .before .before .read-start .ensures)
 
 slice-aggregate-report-names : tie.Need-slice-aggregate-report-names
 slice-aggregate-report-names c =
-    part-sized _ (names-within (c .before .before .order .given .1) (c .before .before .before .before .before .read-names-order .ensures))
+    part-sized _ (start-within _ (c .before .before .start .given .1) (c .before .before .before .before .before .read-start .ensures))
 
 pub main-spec : {M : Type 1} → statement M
 main-spec =

@@ -10,7 +10,7 @@ use Rattle.arguments.proofs.lines.say_failed.Statement.{statement}
 use Rattle.arguments.proofs.lines.say_failed.Tie as tie
 
 -- as much of the name as is shown is in it
-named : (c : tie.After-line) → c .before .smaller .result ≡ length (take (c .before .smaller .result) (c .before .before .before .before .show .last .0))
+named : (c : tie.After-line) → c .before .fewer .result ≡ length (take (c .before .fewer .result) (c .before .before .before .before .show .last .0))
 named c = sym (length-take-le _ (c .before .before .before .before .show .last .0) (omega arith))
 
 slice-aggregate-store-failed-2 : tie.Need-slice-aggregate-store-failed-2
@@ -29,14 +29,6 @@ pub say-failed-spec : {M : Type 1} → statement M
 say-failed-spec =
     tie.close
     (tie.spec
-    (λ c κs. search needs)
-    (λ c κs. search needs)
-    (λ c. search needs)
-    (λ c. search needs)
-    slice-aggregate-store-failed-2
-    store-failed-requires
-    array-share-prefix-line
-    slice-aggregate-fail
-    (λ c κs. search needs)
-    (λ c. search needs)
-    (λ c. search needs))
+    (λ c κs. search needs) (λ c κs. search needs) (λ c. search needs) (λ c. search needs)
+    slice-aggregate-store-failed-2 store-failed-requires array-share-prefix-line slice-aggregate-fail
+    (λ c κs. search needs) (λ c. search needs) (λ c. search needs))

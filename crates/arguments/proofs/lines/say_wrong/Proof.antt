@@ -15,13 +15,6 @@ pub say-wrong-spec : {M : Type 1} → statement M
 say-wrong-spec =
     tie.close
     (tie.spec
-    (λ c. search needs)
-    (λ c κs. search needs)
-    (λ c. search needs)
-    (λ c. search needs)
-    (λ c. search needs)
-    (λ c κs. search needs)
-    array-share-prefix-line
-    slice-aggregate-write-all
-    (λ c κs. search needs)
+    (λ c. search needs) (λ c κs. search needs) (λ c. search needs) (λ c. search needs) (λ c. search needs)
+    (λ c κs. search needs) array-share-prefix-line slice-aggregate-write-all (λ c κs. search needs)
     (λ c. search needs))
