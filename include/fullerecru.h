@@ -76,8 +76,8 @@ extern "C" {
 /* The version of this header, and as one number, 1,000,000 * major + 1,000 * minor + patch. That of the
  * library is told by fullerecru_version: they are made for each other where the two numbers are the
  * same. */
-#define FULLERECRU_VERSION_TEXT "0.11.0"
-#define FULLERECRU_VERSION 11000
+#define FULLERECRU_VERSION_TEXT "0.12.0"
+#define FULLERECRU_VERSION 12000
 
 enum {
     /* Numbers of 64 bits in a planner's memory. */

@@ -2,7 +2,7 @@
 
 # Version of the header that this module is written for: 1,000,000 * major + 1,000 * minor + patch.
 VERSION = 11_000
-VERSION_TEXT = "0.11.0"
+VERSION_TEXT = "0.12.0"
 
 # Numbers of 64 bits in the lists that are lent to the library.
 NUMBERS = 848  # a planner's memory

@@ -51,9 +51,9 @@ needsMore false = 58 ∷ 32 ∷ 110 ∷ 101 ∷ 101 ∷ 100 ∷ 115 ∷ 32 ∷ 1
 unfoldable pub missingLine : (program : List ℕ) (numbers : Bool) (kind : ℕ) → List ℕ
 missingLine program numbers kind = lineOf program (cond (eqb kind 3) stepsNeed (cond (eqb kind 4) widthNeeds (needsMore numbers))) [] []
 
--- the version of the programs, 0.11.0, and the line that has it
+-- the version of the programs, 0.12.0, and the line that has it
 unfoldable pub versionText : List ℕ
-versionText = 48 ∷ 46 ∷ 49 ∷ 49 ∷ 46 ∷ 48 ∷ []
+versionText = 48 ∷ 46 ∷ 49 ∷ 50 ∷ 46 ∷ 48 ∷ []
 
 unfoldable pub versionLine : (program : List ℕ) → List ℕ
 versionLine program = lineOf program (32 ∷ []) versionText (10 ∷ [])

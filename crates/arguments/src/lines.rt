@@ -113,7 +113,7 @@ fn store_version(line: &mut [u8], program: &[u8]) -> usize
     requires { ⌜ length (now program) + aroundSize ≤ length (now line) ⌝ }
     ensures { λ r. ⌜ Stored (now (line .entry)) 0 (versionLine (now (program .entry))) r (now (line .exit)) ⌝ }
 {
-    let version = b"0.11.0";
+    let version = b"0.12.0";
     store_line(line, program, b" ", version, b"\n")
 }
 

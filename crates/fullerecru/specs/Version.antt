@@ -1,11 +1,11 @@
--- The version of the functions for C: 0.11.0.
+-- The version of the functions for C: 0.12.0.
 use Prim.Native.Nat.{ℕ, _+_, _*_}
 
 abbrev pub major : ℕ
 major = 0
 
 abbrev pub minor : ℕ
-minor = 11
+minor = 12
 
 abbrev pub patch : ℕ
 patch = 0

@@ -19,5 +19,5 @@ ghost use Rattle.fullerecru.specs.Version.{versionNumber};
 pub extern "C" fn fullerecru_version() -> u64
     ensures { λ r. ⌜ r ≡ versionNumber ⌝ }
 {
-    11_000
+    12_000
 }

@@ -22,7 +22,7 @@ pub const FIGURES: usize = 7;
 /// Numbers of a row of a tape's list.
 pub const LISTED: usize = 13;
 /// The version of the header, 1,000,000 × major + 1,000 × minor + patch.
-pub const VERSION: u64 = 11_000;
+pub const VERSION: u64 = 12_000;
 
 extern "C" {
     pub fn fullerecru_version() -> u64;
