@@ -1,7 +1,7 @@
 """Sizes of the header include/fullerecru.h, by its names without FULLERECRU_."""
 
 # Version of the header that this module is written for: 1,000,000 * major + 1,000 * minor + patch.
-VERSION = 11_000
+VERSION = 12_000
 VERSION_TEXT = "0.12.0"
 
 # Numbers of 64 bits in the lists that are lent to the library.

@@ -2,7 +2,7 @@
 //! A test compares each with the header.
 
 /// Version of the library that this binding is made for: 1,000,000 × major + 1,000 × minor + patch.
-pub const VERSION: u64 = 11_000;
+pub const VERSION: u64 = 12_000;
 /// The same as text; it is the package's version too.
 pub const VERSION_TEXT: &str = env!("CARGO_PKG_VERSION");
 
