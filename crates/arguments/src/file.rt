@@ -17,7 +17,7 @@ fn file_of(input: Input) -> FileRead
     }
 }
 
-// Reads the file of this name until the list is full or the file ends; the bytes stand at the list's beginning. Where it
+// Reads the file of this name until the list is full or the file ends; the bytes are at the list's beginning. If it
 // fails, `os::errno` says why: closing a file that is only read changes nothing of that.
 //
 // Open is which file the name leads to and what it holds. So many bytes as it says are in the list.

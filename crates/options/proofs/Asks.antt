@@ -3,7 +3,7 @@ use mathlib.Core.Logic.{_↔_}
 use mathlib.Core.Path.{_≡_, refl, sym, ap, subst}
 use mathlib.Core.Bool.{Bool, true, false, cond}
 use mathlib.Core.List.{List, map}
-use Prim.Native.Nat.{ℕ, zero, suc, _≤_}
+use Prim.Native.Nat.{ℕ, _≤_}
 use native.Mathlib.Omega.{arith}
 use borrow.Author.Tests.{ltb-false, le-ltb}
 use lib.Dec.{ltb}
@@ -15,7 +15,7 @@ use Rattle.options.specs.declared.Asked.the-variants.{Work, Usage, Versi
 use Rattle.options.specs.Kinds.{wordOf}
 use Rattle.options.specs.Scan.{asked, askedBy, noneSeen}
 use Rattle.options.specs.Line.{AsksUsage, AsksVersion, AsksWork, CommandLine, line}
-use Rattle.options.proofs.Ends.{Clear, Ends, flag, flag-none, line-end, mark, scan}
+use Rattle.options.proofs.Ends.{Clear, Ends, flag, flag-none, line-end, scan}
 use Rattle.options.proofs.Backs.{line-back}
 
 -- what an answer says of the words that were seen
@@ -42,17 +42,9 @@ says f t = go (ltb 0 (t .wrong)) (ltb 0 (t .waits)) (t .help) (t .version) (ltb 
     go false false false false true d e i j k = tt
     go false false false false false d e i j k = (clear d e, i, j, ltb-false (t .count) (f .least) k)
 
-flag-most : (b : Bool) → flag b ≤ 1
-flag-most true = omega arith
-flag-most false = omega arith
-
 flag-one : (b : Bool) → flag b ≡ 1 → b ≡ true
 flag-one true e = refl
 flag-one false e = absurd (omega arith)
-
-mark-most : (n : ℕ) → mark n ≤ 1
-mark-most zero = omega arith
-mark-most (suc n) = omega arith
 
 -- words at whose end all is clear are a command line, and a command line ends as it says
 module _ (f : Form) (words : List (List ℕ)) where
@@ -62,22 +54,14 @@ module _ (f : Form) (words : List (List ℕ)) where
   line-of : Clear last → CommandLine f words
   line-of c =
       let b = line-back f (length words) words noneSeen 1 (omega arith) (omega arith) (refl, refl) refl c in
-      let e = b .ends in
-      record {
-        options = b .options;
-        others = b .others;
-        is = b .is;
-        known = b .known;
-        taken = b .taken;
-        room = omega (arith, b .room);
-        once = (omega (arith, e .helps, flag-most (last .help)), omega (arith, e .versions, flag-most (last .version)), omega (arith, e .stepped, mark-most (last .steps)), omega (arith, e .widths, mark-most (last .width)));
-      }
+      let o = b .once in
+      record { options = b .options; others = b .others; is = b .is; known = b .known; once = (omega (arith, o .0), omega (arith, o .1), omega (arith, o .2), omega (arith, o .3)); taken = b .taken; room = omega (arith, b .room) }
 
   end-of : (l : CommandLine f words) → Ends noneSeen (l .options) (l .others) last
   end-of l =
       let o = l .once in
       subst (λ (w : List (List ℕ)). Ends noneSeen (l .options) (l .others) (scan f noneSeen 1 w)) (sym (l .is))
-      (line-end f (l .options) (l .others) noneSeen 1 (refl, refl) refl (l .known) (l .taken) (l .room) (omega (arith, o .0)) (omega (arith, o .1)) (omega (arith, o .2)) (omega (arith, o .3)))
+      (line-end f (l .options) (l .others) noneSeen 1 (refl, refl) refl (l .known) (l .taken) (l .room) (omega (arith, o .0), omega (arith, o .1), omega (arith, o .2), omega (arith, o .3)))
 
   -- THE WORK IS ASKED FOR exactly by options that the program knows, each at most once and with its value, none of them `--help` or
   -- `--version`, and after them as many other words as it needs and takes.

@@ -38,6 +38,14 @@ pub mark-none : (n : ℕ) → mark n ≡ 0 → n ≡ 0
 mark-none zero e = refl
 mark-none (suc n) e = absurd (omega arith)
 
+pub flag-most : (b : Bool) → flag b ≤ 1
+flag-most true = omega arith
+flag-most false = omega arith
+
+pub mark-most : (n : ℕ) → mark n ≤ 1
+mark-most zero = omega arith
+mark-most (suc n) = omega arith
+
 pub mark-some : (n : ℕ) → mark (n + 1) ≡ 1
 mark-some n = rw (add-one n)
 
@@ -45,13 +53,15 @@ mark-some n = rw (add-one n)
 abbrev pub Clear : Seen → Type 0
 Clear s = (s .wrong ≡ 0) × (s .waits ≡ 0)
 
+-- each of these options and of those that were seen is there at most once
+abbrev pub Once : Seen → List Option → Type 0
+Once s options = (flag (s .help) + times 1 options ≤ 1) × (flag (s .version) + times 2 options ≤ 1) × (mark (s .steps) + times 3 options ≤ 1) × (mark (s .width) + times 4 options ≤ 1)
+
 -- what is seen at the end of these options and other words, from what was seen before them
 pub record Ends (s : Seen) (options : List Option) (others : List (List ℕ)) (t : Seen) : Type 0 where
   pub clear : Clear t
   pub helps : flag (t .help) ≡ flag (s .help) + times 1 options
   pub versions : flag (t .version) ≡ flag (s .version) + times 2 options
-  pub stepped : mark (t .steps) ≡ mark (s .steps) + times 3 options
-  pub widths : mark (t .width) ≡ mark (s .width) + times 4 options
   pub counts : t .count ≡ s .count + length others
 
 -- Which part of a word's step it is.
@@ -123,41 +133,39 @@ step-to f s options others place words e h = subst (λ (z : Seen). Ends s option
 others-end : (f : Form) (others : List (List ℕ)) (s : Seen) (place : ℕ) → Clear s → Taken f others → s .count + length others ≤ f .most
     → Ends s [] others (scan f s place others)
 unfolding seenFrom
-others-end f [] s place c t r = record { clear = c; helps = omega arith; versions = omega arith; stepped = omega arith; widths = omega arith; counts = omega arith }
+others-end f [] s place c t r = record { clear = c; helps = omega arith; versions = omega arith; counts = omega arith }
 others-end f (w ∷ others) s place c t r =
     let st = taken-step f s place w c (omega arith) (t .0) (t .1) in
     let e = others-end f others (otherAt s place (st .0)) (place + 1) c (t .2) (omega arith) in
     step-to f s [] (w ∷ others) (place + 1) others (st .1)
-    (record { clear = e .clear; helps = e .helps; versions = e .versions; stepped = e .stepped; widths = e .widths; counts = omega (arith, e .counts) })
+    (record { clear = e .clear; helps = e .helps; versions = e .versions; counts = omega (arith, e .counts) })
 
 pub line-end : (f : Form) (options : List Option) (others : List (List ℕ)) (s : Seen) (place : ℕ) → Clear s → s .count ≡ 0
-    → Known f options → Taken f others → length others ≤ f .most
-    → flag (s .help) + times 1 options ≤ 1 → flag (s .version) + times 2 options ≤ 1 → mark (s .steps) + times 3 options ≤ 1 → mark (s .width) + times 4 options ≤ 1
-    → Ends s options others (scan f s place (line options others))
+    → Known f options → Taken f others → length others ≤ f .most → Once s options → Ends s options others (scan f s place (line options others))
 unfolding seenFrom withOption wordOf optionOf same
-line-end f [] others s place c n k t r h v a b = others-end f others s place c t (omega arith)
-line-end f (help ∷ options) others s place c n k t r h v a b =
-    let o : s .help ≡ false = flag-none (s .help) (omega arith) in
+line-end f [] others s place c n k t r h = others-end f others s place c t (omega arith)
+line-end f (help ∷ options) others s place c n k t r h =
+    let o : s .help ≡ false = flag-none (s .help) (omega (arith, h .0)) in
     let st : withWord f s (word 1 0) place ≡ tellsAt s 1 = rw (option-step f s place 1 0 c n refl refl, o) in
-    let e = line-end f options others (tellsAt s 1) (place + 1) c n k t r (omega arith) v a b in
+    let e = line-end f options others (tellsAt s 1) (place + 1) c n k t r (omega (arith, h .0), h .1, h .2, h .3) in
     step-to f s (help ∷ options) others (place + 1) (line options others) st
-    (record { clear = e .clear; helps = omega (arith, e .helps, ap flag o); versions = e .versions; stepped = e .stepped; widths = e .widths; counts = e .counts })
-line-end f (version ∷ options) others s place c n k t r h v a b =
-    let o : s .version ≡ false = flag-none (s .version) (omega arith) in
+    (record { clear = e .clear; helps = omega (arith, e .helps, ap flag o); versions = e .versions; counts = e .counts })
+line-end f (version ∷ options) others s place c n k t r h =
+    let o : s .version ≡ false = flag-none (s .version) (omega (arith, h .1)) in
     let st : withWord f s (word 2 0) place ≡ tellsAt s 2 = rw (option-step f s place 2 0 c n refl refl, o) in
-    let e = line-end f options others (tellsAt s 2) (place + 1) c n k t r h (omega arith) a b in
+    let e = line-end f options others (tellsAt s 2) (place + 1) c n k t r (h .0, omega (arith, h .1), h .2, h .3) in
     step-to f s (version ∷ options) others (place + 1) (line options others) st
-    (record { clear = e .clear; helps = e .helps; versions = omega (arith, e .versions, ap flag o); stepped = e .stepped; widths = e .widths; counts = e .counts })
-line-end f (steps file ∷ options) others s place c n k t r h v a b =
-    let o : s .steps ≡ 0 = mark-none (s .steps) (omega arith) in
+    (record { clear = e .clear; helps = e .helps; versions = omega (arith, e .versions, ap flag o); counts = e .counts })
+line-end f (steps file ∷ options) others s place c n k t r h =
+    let o : s .steps ≡ 0 = mark-none (s .steps) (omega (arith, h .2)) in
     let st = steps-step f s place (wordOf file) c n (rw (k .0, o)) in
-    let e = line-end f options others (stepsAt s (place + 1)) (place + 1 + 1) (c .0, refl) n (k .1) t r h v (omega (arith, mark-some place)) b in
+    let e = line-end f options others (stepsAt s (place + 1)) (place + 1 + 1) (c .0, refl) n (k .1) t r (h .0, h .1, omega (arith, h .2, mark-some place), h .3) in
     step-to f s (steps file ∷ options) others (place + 1 + 1) (line options others) st
-    (record { clear = e .clear; helps = e .helps; versions = e .versions; stepped = omega (arith, e .stepped, mark-some place, ap mark o); widths = e .widths; counts = e .counts })
-line-end f (width number ∷ options) others s place c n k t r h v a b =
-    let o : s .width ≡ 0 = mark-none (s .width) (omega arith) in
+    (record { clear = e .clear; helps = e .helps; versions = e .versions; counts = e .counts })
+line-end f (width number ∷ options) others s place c n k t r h =
+    let o : s .width ≡ 0 = mark-none (s .width) (omega (arith, h .3)) in
     let w = number-word number (k .1) in
     let st = width-step f s place (w .0) c n (rw (k .0, o)) in
-    let e = line-end f options others (widthAt s (place + 1) (w .0)) (place + 1 + 1) (c .0, refl) n (k .2) t r h v a (omega (arith, mark-some place)) in
+    let e = line-end f options others (widthAt s (place + 1) (w .0)) (place + 1 + 1) (c .0, refl) n (k .2) t r (h .0, h .1, h .2, omega (arith, h .3, mark-some place)) in
     step-to f s (width number ∷ options) others (place + 1 + 1) (line options others) (ap (λ (v : Word). withWord f (withWord f s (word 4 0) place) v (place + 1)) (w .1) ∙ st)
-    (record { clear = e .clear; helps = e .helps; versions = e .versions; stepped = e .stepped; widths = omega (arith, e .widths, mark-some place, ap mark o); counts = e .counts })
+    (record { clear = e .clear; helps = e .helps; versions = e .versions; counts = e .counts })

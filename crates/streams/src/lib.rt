@@ -44,8 +44,8 @@ fn after(answer: isize) -> Next
     Next::Ended
 }
 
-// Reads what a descriptor is open on until the list is full or the input ends, or until a read fails; the bytes stand at the
-// list's beginning, one read's behind the other's.
+// Reads what a descriptor is open on until the list is full or the input ends, or until a read fails; the bytes are at the
+// list's beginning, one read's after the other's.
 //
 // Open is which of the two answers it gives where the list has room, how many bytes `Bytes` says, and what the list
 // holds then: that is what `read` answers and stores, of which its contract says only that it is -1 or no more than

@@ -1,4 +1,4 @@
--- `arguments::lines::store_line` meets its contract: the parts one behind the other, from `stored-next`.
+-- `arguments::lines::store_line` meets its contract: the parts one after the other, from `stored-next`.
 use native.Mathlib.Omega.{arith}
 use Rattle.text.proofs.Store.{stored-next}
 use borrow.Author.Needs.{needs}
