@@ -51,7 +51,7 @@ fn planners_on_several_threads() {
 /// Bytes of stack that are enough for every call, as the header says, and that the thread and the
 /// binding have beside them.
 const STACK: usize = 180 * 1_000;
-const BESIDE: usize = 48 * 1_024;
+const BESIDE: usize = 8 * 1_024;
 
 #[test]
 fn calls_need_no_more_stack_than_the_header_says() {
