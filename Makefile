@@ -69,7 +69,7 @@ programs:
 	@tools/needs 'make programs' bash rt
 	@tools/prove check $(PROGRAMS)
 
-#: test       every check, from nothing: it EMPTIES target/ first (30 min); ends in 'N passed, M failed'
+#: test       every check, from nothing: it EMPTIES target/ first (25 min); ends in 'N passed, M failed'
 test:
 	@tools/needs 'make test' bash
 	@tests/run

@@ -16,11 +16,13 @@ const PLANREPORT: u64 = 240;
 const NGCTAPE: u64 = 512;
 
 /// What the program, started with arguments on so small a stack, writes for an
-/// input; panics if it ends otherwise than by itself.
+/// input; panics if it ends otherwise than by itself. The environment is empty,
+/// since it lies on the stack too.
 fn on_stack(kilobytes: u64, program: &PathBuf, words: &[&OsStr], input: &[u8]) -> Vec<u8> {
     let file = OwnFile::of(input);
     let limit = format!("ulimit -s {kilobytes} && exec \"$0\" \"$@\"");
-    let output = Command::new("sh")
+    let output = Command::new("/bin/sh")
+        .env_clear()
         .args(["-c", &limit])
         .arg(program)
         .args(words)
