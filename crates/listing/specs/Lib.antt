@@ -1,3 +1,3 @@
--- The listing of a whole tape, the line of a block given out, and a tape as rows of numbers.
+-- The listing of a whole tape.
 pub mod Listing
 pub mod Parts

@@ -1,4 +1,4 @@
--- Document 02, Q-7: what held a tape back, its figures, the report over many tapes, and its text.
+-- Document 02, Q-7: what held a tape back, its figures, and the report over many tapes.
 pub mod Counts
 pub mod Held
 pub mod Figures

@@ -70,7 +70,7 @@ fn plan_surveyed(s: &[u8], steps: &[u8], work: &mut [u64], list: &mut [u64]) -> 
 // Plans a tape as `plan_tape` does, but into a list that has room for the plan of any tape, so that 11 is never given: the plan
 // is at its beginning. What is measured of each block is stored, a row for each, at the beginning of the work sheet. On a
 // refusal the plan holds what it held, but the work sheet anything: it is work memory of the function that calls this one, or
-// that one has checked the tape. That only `listing` and `report` call it is tested (tests/run).
+// that one has checked the tape. That only `tape_rows`, `listing` and `report` call it is tested (tests/run).
 pub fn plan_on_work_sheet(s: &[u8], steps: &[u8], work: &mut [u64], plan: &mut [u64]) -> TapePlanned
     requires { ⌜ (length (now work) ≡ sheetSize) × (length (now plan) ≡ mostJunctions) ⌝ }
     ensures { λ r. ⌜ WholeTape (now (s .entry)) (now (steps .entry)) (now (work .entry)) (now (work .exit)) (now (plan .entry)) (now (plan .exit)) r ⌝ }
