@@ -1,4 +1,6 @@
 // The numbers on the display: why a call is refused, and the number that says so.
+#![tactic(auto)]
+
 ghost use Rattle.std.specs.Prelude.{◌≡◌};
 ghost use Rattle.display.specs.Display.{checked_means, refusal_number, ◌then◌};
 

@@ -2,6 +2,7 @@
 // definitions and their laws hold for any width; one call reads or writes a field of at most 57 bits, or a word of 64. Shifts
 // and masks are written as products, quotients and remainders of powers of two, which the compiler makes shifts and masks of
 // again. Nothing here knows what a field means.
+#![tactic(auto)]
 
 ghost use Rattle.std.specs.Prelude.{◌≡◌, ◌+◌, ◌*◌, ◌^◌, ◌<◌, ◌≤◌, pos, negsuc, ◌<ℤ◌, length, take, drop};
 ghost use Rattle.fields.specs.Bytes.{number_of, with_bytes};

@@ -1,5 +1,7 @@
 // One step of the backward and of the forward pass over a line of blocks.
 // Squared speeds, caps and reaches are in (µm/s)². No sum wraps, whatever the numbers.
+#![tactic(auto)]
+
 ghost use Rattle.std.specs.Prelude.{◌≡◌, ◌+◌, min};
 ghost use Rattle.profile.specs.Passes.{brake_from, exit_from};
 
