@@ -22,7 +22,7 @@ use scan::{read_seen, read_word};
 pub const STEPS: usize = machine::torque::STEPS + 1;
 
 // What is left to do for a program.
-#[derive(Drop)]
+#[derive(Clone, Copy)]
 pub enum Start {
     // its work: what its words say, and so many bytes of the file that is read at once at the beginning of the list that was lent
     Work(Seen, usize),
@@ -31,14 +31,14 @@ pub enum Start {
 }
 
 // Why a file's bytes could not be had.
-#[derive(Drop)]
+#[derive(Clone, Copy)]
 pub enum Fault {
     Unopened,
     Unread,
 }
 
 // What was read of a file.
-#[derive(Drop)]
+#[derive(Clone, Copy)]
 pub enum FileRead {
     // so many bytes: all that there was room for, or all to the end of the file
     Bytes(usize),
@@ -46,7 +46,7 @@ pub enum FileRead {
 }
 
 // What was read of a file whose name is at a place.
-#[derive(Drop)]
+#[derive(Clone, Copy)]
 pub enum FileAt {
     // so many bytes of its name and so many of the file, each at the beginning of its list
     Bytes(usize, usize),

@@ -9,7 +9,7 @@ use crate::whole::{pow2, smaller, zeros};
 const BASE: u64 = 0x1_0000_0000;
 
 // A number of two words: high × 2^64 + low.
-#[derive(Drop)]
+#[derive(Clone, Copy)]
 pub struct Words {
     pub high: u64,
     pub low: u64,

@@ -15,7 +15,7 @@ mod demands;
 mod hosted;
 
 // What a fresh planner, two adds, a take, told and shown answered.
-#[derive(Drop)]
+#[derive(Clone, Copy)]
 pub struct Answered {
     pub made: Checked,
     pub first: AddAnswer,
@@ -26,7 +26,7 @@ pub struct Answered {
 }
 
 // The same as numbers on the display, from the functions for C.
-#[derive(Drop)]
+#[derive(Clone, Copy)]
 pub struct Returned {
     pub made: u64,
     pub first: u64,

@@ -5,7 +5,7 @@ ghost use Rattle.std.specs.Prelude.{◌≡◌};
 ghost use Rattle.display.specs.Display.{checked_means, refusal_number, ◌then◌};
 
 // Why a call is refused, by the word on the display.
-#[derive(Drop)]
+#[derive(Clone, Copy)]
 pub enum Refusal {
     Limits,
     Still,
@@ -26,7 +26,7 @@ pub enum Refusal {
 }
 
 // The answer of a check.
-#[derive(Drop)]
+#[derive(Clone, Copy)]
 pub enum Checked {
     Passed,
     Refused(Refusal),

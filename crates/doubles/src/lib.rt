@@ -9,7 +9,7 @@ use arith::signed::signed_by;
 use arith::whole::smaller;
 
 // 1,000 times a double, to the nearest whole number, an exact half to the even one.
-#[derive(Drop)]
+#[derive(Clone, Copy)]
 pub enum Reading {
     // the double is a NaN or an infinity
     NotFinite,
@@ -19,7 +19,7 @@ pub enum Reading {
 }
 
 // The parts of a double's pattern.
-#[derive(Drop)]
+#[derive(Clone, Copy)]
 struct Fields {
     negative: bool,
     // the exponent's field: 0 for a double below the smallest with a leading digit, `ONES` for an infinity or a NaN

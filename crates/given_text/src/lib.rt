@@ -12,7 +12,7 @@ pub const LINE: usize = 21 * 9 + 1;
 
 // What the line shows of a block: its mark, length, µm, and acceleration, µm/s², the squared speeds at its ends, (µm/s)², and its
 // ramp.
-#[derive(Drop)]
+#[derive(Clone, Copy)]
 pub struct Listed {
     pub mark: u64,
     pub length: u64,

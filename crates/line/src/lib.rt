@@ -5,7 +5,7 @@ use machine::{Block, Ramp};
 pub mod lists;
 
 // A block given out.
-#[derive(Drop)]
+#[derive(Clone, Copy)]
 pub struct Given {
     pub block: Block,
     // µm
@@ -19,35 +19,35 @@ pub struct Given {
 }
 
 // The answer of an add.
-#[derive(Drop)]
+#[derive(Clone, Copy)]
 pub enum AddAnswer {
     Added,
     Refused(Refusal),
 }
 
 // The answer of a take.
-#[derive(Drop)]
+#[derive(Clone, Copy)]
 pub enum TakeAnswer {
     Given(Given),
     Refused(Refusal),
 }
 
 // The answer of a request to show the plan.
-#[derive(Drop)]
+#[derive(Clone, Copy)]
 pub enum ShowAnswer {
     Shown,
     Refused(Refusal),
 }
 
 // A call of a planner: an add with its block, or a take.
-#[derive(Drop)]
+#[derive(Clone, Copy)]
 pub enum Call {
     Add(Block),
     Take,
 }
 
 // The answer of a call: that of an add or of a take.
-#[derive(Drop)]
+#[derive(Clone, Copy)]
 pub enum Answer {
     Accepted,
     Gave(Given),

@@ -125,7 +125,7 @@ fn plan_lent(s: &[u8], steps: &[u8], sheet: &mut [u64], plan: &mut [u64]) -> Tap
 }
 
 // What a tape's listing is made from, besides its sheet and its plan. Only `of` makes one.
-#[derive(Drop)]
+#[derive(Clone, Copy)]
 pub struct Listing {
     // the answer of planning the tape
     answer: TapePlanned,

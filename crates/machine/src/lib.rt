@@ -11,7 +11,7 @@ pub mod torque;
 use display::Refusal;
 
 // A quantity of each axis.
-#[derive(Drop)]
+#[derive(Clone, Copy)]
 pub struct Axes {
     pub x: u64,
     pub y: u64,
@@ -19,7 +19,7 @@ pub struct Axes {
 }
 
 // The limits of a machine.
-#[derive(Drop)]
+#[derive(Clone, Copy)]
 pub struct Limits {
     // greatest acceleration of each axis, µm/s²
     pub accel: Axes,
@@ -34,7 +34,7 @@ pub struct Limits {
 }
 
 // A machine: its limits and the torque of its motors.
-#[derive(Drop)]
+#[derive(Clone, Copy)]
 pub struct Machine {
     pub limits: Limits,
     // percent of the acceleration that the motors give at each of eight speed steps, a byte for each,
@@ -43,7 +43,7 @@ pub struct Machine {
 }
 
 // A straight move of the table.
-#[derive(Drop)]
+#[derive(Clone, Copy)]
 pub struct Block {
     // the move on each axis, µm
     pub x: i64,
@@ -58,7 +58,7 @@ pub struct Block {
 }
 
 // What a plan needs of one block.
-#[derive(Drop)]
+#[derive(Clone, Copy)]
 pub struct Numbers {
     // length, µm
     pub length: u64,
@@ -71,14 +71,14 @@ pub struct Numbers {
 }
 
 // A block's numbers and the square of its speed, (µm/s)², which is its cap but on a curve.
-#[derive(Drop)]
+#[derive(Clone, Copy)]
 pub struct Gauged {
     pub square: u64,
     pub numbers: Numbers,
 }
 
 // How a block is driven between its entry and its exit.
-#[derive(Drop)]
+#[derive(Clone, Copy)]
 pub struct Ramp {
     // greatest squared speed, (µm/s)²
     pub peak: u64,
@@ -89,21 +89,21 @@ pub struct Ramp {
 }
 
 // The answer of a call for a machine.
-#[derive(Drop)]
+#[derive(Clone, Copy)]
 pub enum MachineAnswer {
     Of(Machine),
     Refused(Refusal),
 }
 
 // The answer of a call for a block's numbers.
-#[derive(Drop)]
+#[derive(Clone, Copy)]
 pub enum NumbersAnswer {
     Of(Numbers),
     Refused(Refusal),
 }
 
 // The answer of a call for a cap, (µm/s)².
-#[derive(Drop)]
+#[derive(Clone, Copy)]
 pub enum CapAnswer {
     Of(u64),
     Refused(Refusal),

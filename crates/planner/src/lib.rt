@@ -71,26 +71,26 @@ pub fn shown(memory: &[u64; NUMBERS], list: &mut [u64]) -> ShowAnswer
 }
 
 // A planner by value: the same calls on numbers of its own.
-#[derive(Drop)]
+#[derive(Clone, Copy)]
 pub struct Planner {
     numbers: [u64; NUMBERS],
 }
 
 // The answer and the planner after it, of the limits and steps, of an add and of a take. The planner
 // of refused ones is all zeros: it holds nothing, and is not to be used.
-#[derive(Drop)]
+#[derive(Clone, Copy)]
 pub struct Made {
     pub answer: Checked,
     pub planner: Planner,
 }
 
-#[derive(Drop)]
+#[derive(Clone, Copy)]
 pub struct AddedPlanner {
     pub answer: AddAnswer,
     pub planner: Planner,
 }
 
-#[derive(Drop)]
+#[derive(Clone, Copy)]
 pub struct TakenPlanner {
     pub answer: TakeAnswer,
     pub planner: Planner,

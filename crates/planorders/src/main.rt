@@ -20,7 +20,7 @@ const CHUNK: usize = EVENT_BYTES * EVENTS;
 const MOST_EVENTS: u64 = 18_446_744_073_709_551_000;
 
 // How running all events ended.
-#[derive(Drop)]
+#[derive(Clone, Copy)]
 enum Ended {
     // the place from 1 of the event that the input ends inside; 0 where it ends with a whole event
     At(u64),

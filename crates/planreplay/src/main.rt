@@ -20,7 +20,7 @@ const CHUNK: usize = CALL_BYTES * replay_text::CALLS;
 const MOST_CALLS: u64 = 18_446_744_073_709_551_000;
 
 // How running all calls ended.
-#[derive(Drop)]
+#[derive(Clone, Copy)]
 enum Ended {
     // the place from 1 of the call that the input ends inside; 0 where it ends with a whole call
     At(u64),

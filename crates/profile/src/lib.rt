@@ -7,7 +7,7 @@ ghost use Rattle.profile.specs.Passes.{brake_from, exit_from};
 
 // Where the stairs that stay end when a new junction is put behind them: how many stay, and what the new junction allows at
 // the last of them, (µm/s)².
-#[derive(Drop)]
+#[derive(Clone, Copy)]
 pub struct Stay {
     pub count: u64,
     pub allows: u64,

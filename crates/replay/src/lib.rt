@@ -32,7 +32,7 @@ const BEFORE_GIVEN: usize = 1 + MOVES;
 pub const PLAN: usize = Planner::PLACES as usize + 1;
 
 // The answer of running a trace.
-#[derive(Drop)]
+#[derive(Clone, Copy)]
 pub enum Replayed {
     // the number of blocks held at the end
     Done(u64),

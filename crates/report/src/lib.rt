@@ -21,7 +21,7 @@ pub const NUMBERS: usize = 8;
 pub const MOST_TAPES: u64 = 100;
 
 // The figures of a tape, or of all tapes of a report.
-#[derive(Drop)]
+#[derive(Clone, Copy)]
 pub struct Figures {
     pub blocks: u64,
     // total length, µm
@@ -36,7 +36,7 @@ pub struct Figures {
 }
 
 // The answer of a call for a tape's figures.
-#[derive(Drop)]
+#[derive(Clone, Copy)]
 pub enum Figured {
     Figures(Figures),
     // why, and the place of the record at fault, counted from 1; 0 where no record is at fault

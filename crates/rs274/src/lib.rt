@@ -8,7 +8,7 @@ pub mod whole;
 use display::Refusal;
 
 // What is in force behind a line.
-#[derive(Drop)]
+#[derive(Clone, Copy)]
 pub struct Modal {
     // G20, else G21
     pub inches: bool,
@@ -25,7 +25,7 @@ pub struct Modal {
 }
 
 // The answer of keeping a line's block.
-#[derive(Drop)]
+#[derive(Clone, Copy)]
 enum Kept {
     // so many blocks are kept now
     At(usize),
@@ -33,7 +33,7 @@ enum Kept {
 }
 
 // The answer of taking a line.
-#[derive(Drop)]
+#[derive(Clone, Copy)]
 enum LineTaken {
     // what is in force behind it, and how many blocks are kept
     Next(Modal, usize),
@@ -41,7 +41,7 @@ enum LineTaken {
 }
 
 // The answer of a text.
-#[derive(Drop)]
+#[derive(Clone, Copy)]
 pub enum TextAnswer {
     // the number of its blocks, whose records are written
     Written(usize),

@@ -9,7 +9,7 @@ use libc::{STDERR_FILENO, STDIN_FILENO, STDOUT_FILENO};
 use text::Put;
 
 // What one answer of `read` says.
-#[derive(Drop)]
+#[derive(Clone, Copy)]
 enum Next {
     // so many bytes more, at least one
     More(usize),
@@ -20,7 +20,7 @@ enum Next {
 }
 
 // What was read of a stream.
-#[derive(Drop)]
+#[derive(Clone, Copy)]
 pub enum Input {
     // so many bytes: all that there was room for, or all to the end of the input
     Bytes(usize),

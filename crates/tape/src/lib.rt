@@ -17,21 +17,21 @@ pub const MOST_BLOCKS: usize = 2_048;
 pub const MOST_BYTES: usize = LIMITS_BYTES + RECORD_BYTES * MOST_BLOCKS;
 
 // The answer of reading limits.
-#[derive(Drop)]
+#[derive(Clone, Copy)]
 pub enum LimitsRead {
     Read(Limits),
     Refused(Refusal),
 }
 
 // The answer of reading one record.
-#[derive(Drop)]
+#[derive(Clone, Copy)]
 pub enum RecordRead {
     Read(Block),
     Refused(Refusal),
 }
 
 // The answer of checking a whole tape.
-#[derive(Drop)]
+#[derive(Clone, Copy)]
 pub enum TapeCheck {
     // the number of its blocks
     Accepted(usize),

@@ -8,7 +8,7 @@ use display::Refusal;
 use machine::Numbers;
 
 // The answer of planning a whole tape.
-#[derive(Drop)]
+#[derive(Clone, Copy)]
 pub enum TapePlanned {
     Planned,
     // why, and the place of the record at fault, counted from 1; 0 where no record is at fault
@@ -17,7 +17,7 @@ pub enum TapePlanned {
 
 // What a sheet has of a block: its mark, its numbers, the square of its speed, (µm/s)², and the corner cap where
 // it begins, as a number beside the block caps of that junction (`machine::corner::corner_beside`); 0 for the first block.
-#[derive(Drop)]
+#[derive(Clone, Copy)]
 pub struct Measured {
     pub mark: u64,
     pub numbers: Numbers,

@@ -9,7 +9,7 @@ ghost use Rattle.text.specs.Store.{Stored, Answered, place_behind};
 const MOST: usize = 21;
 
 // The place behind a text that was stored, or that there was too little room.
-#[derive(Drop)]
+#[derive(Clone, Copy)]
 pub enum Put {
     At(usize),
     NoRoom,

@@ -40,7 +40,7 @@ pub const ABSOLUTE: u64 = 900_000;
 pub const INCREMENTAL: u64 = 910_000;
 
 // The number of a word.
-#[derive(Drop)]
+#[derive(Clone, Copy)]
 pub enum Number {
     // so many ten-thousandths
     Of(i64),
@@ -49,7 +49,7 @@ pub enum Number {
 }
 
 // Digits that stand at the beginning of bytes.
-#[derive(Drop)]
+#[derive(Clone, Copy)]
 struct Digits {
     // how many
     count: usize,
@@ -58,7 +58,7 @@ struct Digits {
 }
 
 // Where a word stands among a line's words.
-#[derive(Drop)]
+#[derive(Clone, Copy)]
 enum Slot {
     At(usize),
     // it is not listed
@@ -66,7 +66,7 @@ enum Slot {
 }
 
 // What comes of the next bytes of a line behind words that are right.
-#[derive(Drop)]
+#[derive(Clone, Copy)]
 enum Step {
     // so many bytes are done
     Next(usize),
