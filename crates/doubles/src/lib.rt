@@ -1,4 +1,6 @@
 // One double of 64 bits, read exactly from its own bits, and given back. Nothing here knows what a double measures.
+#![tactic(auto)]
+
 ghost use Rattle.std.specs.Prelude.{◌≡◌, not, ◌+◌, ◌^◌, ◌<◌, ◌≤◌, min, T, nat_abs};
 ghost use Rattle.std.specs.Float.{binary64};
 ghost use Rattle.std.specs.Float.Ieee.{is_nan, of_bits, of_int, sub, to_bits};

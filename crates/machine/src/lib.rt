@@ -1,5 +1,7 @@
 // The machine and the block: limits, blocks, what is refused of them, and the numbers that a plan
 // is made of. Lengths are in µm, speeds in µm/s, squared speeds in (µm/s)², accelerations in µm/s².
+#![tactic(auto)]
+
 pub mod answer;
 pub mod blocks;
 pub mod check;

@@ -1,5 +1,7 @@
 // The two passes over a line of blocks that is lent as its junction caps and reaches, (µm/s)². The plan is made in
 // place, in one list of one number for each junction.
+#![tactic(auto)]
+
 ghost use Rattle.std.specs.Prelude.{◌≡◌, ◌+◌, length};
 ghost use Rattle.profile.specs.Passes.{forward};
 ghost use Rattle.passes.specs.Lent.{BrakedList, line_of};

@@ -1,0 +1,11 @@
+-- `machine::answer::check_call` meets its contract: limits that are refused decide, else the block does.
+use mathlib.Core.Path.{◌∙◌}
+use borrow.Author.Rules.{rules}
+use Rattle.display.proofs.Answers.{refused_first, passed_first}
+use Rattle.machine.proofs.answer.check_call.Goals as goal
+
+pub returns-in-Refused : goal.returns-in-Refused
+returns-in-Refused c = refused_first _ _ c.in-Refused.is c.check_limits-limits.ensures
+
+pub returns-in-Passed : goal.returns-in-Passed
+returns-in-Passed c = c.check_block.ensures ∙ passed_first _ _ c.in-Passed.is c.check_limits-limits.ensures
