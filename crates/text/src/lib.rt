@@ -1,5 +1,6 @@
 // The text of a listing and of a replay: numbers in decimal, words, and lines of them, stored in bytes that a caller lends.
 // Nothing here knows what a number means. A text is stored whole, or not at all where it has too little room.
+#![tactic(auto)]
 
 ghost use Rattle.std.specs.Prelude.{◌≡◌, ◌+◌, ◌<◌, ◌≤◌, leb, length, ◌++◌};
 ghost use Rattle.text.specs.Text.{decimal, last_digits, Digits, spaced, line, named, row, named_row, header, refused_words, refused_at, refused_named, refused, added, held, plan};

@@ -8,22 +8,17 @@ use Rattle.text.specs.Text.{spaced, line}
 use Rattle.text.proofs.Store.{same_test}
 use Rattle.text.proofs.Lines.{length_line}
 use borrow.Author.Rules.{rules}
-use Rattle.text.proofs.line_fits.Statement.{statement}
-use Rattle.text.proofs.line_fits.Tie as tie
+use Rattle.text.proofs.line_fits.Goals as goal
 
-returns : tie.Need-returns
-returns c =
-    let s = c.before.before.before.args in
+pub returns-then-room-words : goal.returns-then-room-words
+returns-then-room-words c =
+    let s = c.args in
     rw (lt-leb (length (line s.words.now s.numbers.now)) s.room (omega (arith, length_line s.words.now s.numbers.now)))
 
-returns-2 : tie.Need-returns-2
-returns-2 c =
-    let s = c.before.before.before.before.args in
+pub returns : goal.returns
+returns c =
+    let s = c.args in
     let size = length_line s.words.now s.numbers.now in
-    c.spaced-fits.ensures
+    c.spaced_fits.ensures
     ∙ same_test (length (spaced s.numbers.now)) (s.room - length s.words.now - 1) (length (line s.words.now s.numbers.now)) s.room
     (λ h. omega arith) (λ h. omega arith)
-
-pub line_fits_spec : {M : Type 1} → statement M
-line_fits_spec =
-    tie.close (tie.spec returns (λ c. search rules) (λ c. search rules) (λ c κs. search rules) returns-2)

@@ -5,16 +5,15 @@ use mathlib.Core.Path.{◌≡◌, refl}
 use lib.ListN.{length-set}
 use borrow.Author.Rules.{rules}
 use Rattle.text.proofs.Store.{stored_none, stored_cons}
-use Rattle.text.proofs.store_group.Statement.{statement}
-use Rattle.text.proofs.store_group.Tie as tie
+use Rattle.text.proofs.store_group.Goals as goal
 
-slice-write-out-2 : tie.Need-slice-write-out-2
-slice-write-out-2 c = simp length-set (omega arith)
+pub bounds-out-at-2 : goal.bounds-out-at-2
+bounds-out-at-2 c = simp length-set (omega arith)
 
-slice-write-out-3 : tie.Need-slice-write-out-3
-slice-write-out-3 c = simp length-set (omega arith)
+pub bounds-out-at-3 : goal.bounds-out-at-3
+bounds-out-at-3 c = simp length-set (omega arith)
 
-returns : tie.Need-returns
+pub returns : goal.returns
 returns c =
     let n = c.args.n in
     let first : n / 10 / 10 % 10 ≡ n % 1_000 / 100 = omega arith in
@@ -24,22 +23,3 @@ returns c =
     (stored_cons (c.args.at + 1) _ refl (omega arith)
     (stored_cons (c.args.at + 2) _ (omega arith) (simp length-set (omega arith))
     (stored_cons (c.args.at + 3) _ (omega arith) (simp length-set (omega arith)) stored_none)))
-
-pub store_group_spec : {M : Type 1} → statement M
-store_group_spec =
-    tie.close
-    (tie.spec
-    (λ c. search rules)
-    (λ c. search rules)
-    (λ c. search rules)
-    (λ c. search rules)
-    (λ c. search rules)
-    (λ c. search rules)
-    slice-write-out-2
-    (λ c. search rules)
-    (λ c. search rules)
-    (λ c. search rules)
-    slice-write-out-3
-    (λ c. search rules)
-    (λ c. search rules)
-    returns)
