@@ -1,4 +1,6 @@
 // The line of a block given out: `mark length accel entry peak exit up cruise down`.
+#![tactic(auto)]
+
 ghost use Rattle.std.specs.Prelude.{◌+◌, ◌≤◌, length};
 ghost use Rattle.text.specs.Text.{row};
 ghost use Rattle.given_text.specs.Given.{PutRow, WroteLine, given_text, listed_numbers, most_given};

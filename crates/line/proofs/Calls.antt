@@ -44,10 +44,10 @@ holds_call take h = holds_take h
 pub holds_calls : {r : Ring} {line : Line} (calls : List Call) → Holds r line
     → (ring_answers r calls ≡ line_answers line calls) × Holds (ring_after_all r calls) (line_after_all line calls)
 unfolding ring_answers line_answers ring_after_all line_after_all
-holds_calls [] h = (refl, h)
-holds_calls (c ∷ calls) h =
+holds_calls {r = r} {line = line} [] h = (refl, h)
+holds_calls {r = r} {line = line} (c ∷ calls) h =
     let one = holds_call c h in
-    let more = holds_calls calls one.1 in
+    let more = holds_calls {r = ring_after r c} {line = line_after line c} calls one.1 in
     ((λ i. one.0 i ∷ more.0 i), more.1)
 
 -- A call leaves the machine as it is,

@@ -1,4 +1,6 @@
 // What a planner answers, and (in specs/) document 01's line of blocks and the ring of places that holds one.
+#![tactic(auto)]
+
 use display::Refusal;
 use machine::{Block, Ramp};
 

@@ -1,4 +1,6 @@
 // A block given out with its ramp between its entry and exit squared speeds, and the peak alone.
+#![tactic(auto)]
+
 ghost use Rattle.std.specs.Prelude.{◌≡◌, ◌^◌, ◌<◌};
 ghost use Rattle.machine.specs.Numbers.{Rampable, peak_of, ramp_of, rampable, sized};
 ghost use Rattle.line.specs.Answers.{given_between, ramp_between};

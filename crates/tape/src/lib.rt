@@ -1,5 +1,7 @@
 // The tape: `LIMITS_BYTES` of limits and then `RECORD_BYTES` for each block, in fields packed without gaps, most significant bit first.
 // Any bytes and any values are answered: nothing is required of who reads, writes or checks.
+#![tactic(auto)]
+
 pub mod limits;
 pub mod records;
 pub mod whole;

@@ -1,4 +1,6 @@
 // RS-274 text: its lines, the words of a line and their numbers. Nothing here knows what a word does, nor a machine.
+#![tactic(auto)]
+
 pub mod bytes;
 pub mod numbers;
 pub mod scan;
