@@ -9,8 +9,7 @@ use mir.Val.{SFits, to_z}
 use mir.Facts.{to_z_pos}
 use Rattle.arith.proofs.SignedLaws.{fits_small, read_back_lem}
 use Rattle.host.proofs.Hosts.{coordinate_shifted, coordinate_small}
-use Rattle.host.proofs.state.coordinate_of.Statement.{statement}
-use Rattle.host.proofs.state.coordinate_of.Tie as tie
+use Rattle.host.proofs.state.coordinate_of.Goals as goal
 
 -- the difference that the machine works out
 module _ (n : ℕ) where
@@ -20,11 +19,8 @@ module _ (n : ℕ) where
   fits : SFits w64 (to_z w64 ((n % 2 ^ 32 + 2 ^ 31) % 2 ^ 32) -ℤ to_z w64 (2 ^ 31))
   fits = rw (difference, coordinate_shifted n) (fits_small _ (omega (arith, coordinate_small n)))
 
-sub-result : tie.Need-overflow-sub-result
-sub-result c = fits c.args.number
+pub overflow_sub-result : goal.overflow_sub-result
+overflow_sub-result c = fits c.args.number
 
-returns : tie.Need-returns
+pub returns : goal.returns
 returns c = read_back_lem (fits c.args.number) ∙ difference c.args.number ∙ coordinate_shifted c.args.number
-
-pub coordinate_of_spec : {M : Type 1} → statement M
-coordinate_of_spec = tie.close (tie.spec (λ c. search rules) (λ c. search rules) (λ c. search rules) sub-result returns)
