@@ -6,25 +6,12 @@ use native.Mathlib.Omega.{arith}
 use lib.ListN.{take, drop}
 use Rattle.replay.specs.Trace.{call_bytes, call_in, call_of}
 use borrow.Author.Rules.{rules}
-use Rattle.replay.proofs.calls.read_call.Statement.{statement}
-use Rattle.replay.proofs.calls.read_call.Tie as tie
+use Rattle.replay.proofs.calls.read_call.Goals as goal
 
 part_call : (bytes : List ℕ) (k : ℕ) → call_of (take (call_bytes * k + call_bytes - call_bytes * k) (drop (call_bytes * k) bytes)) ≡ call_in bytes k
 part_call bytes k =
     let e : call_bytes * k + call_bytes - call_bytes * k ≡ call_bytes = omega arith in
     ap (λ (n : ℕ). call_of (take n (drop (call_bytes * k) bytes))) e
 
-returns : tie.Need-returns
-returns c = let a = c.before.before.before.args in c.call-of.ensures ∙ part_call a.bytes.now a.k
-
-pub read_call_spec : {M : Type 1} → statement M
-read_call_spec =
-    tie.close
-    (tie.spec
-    (λ c. search rules)
-    (λ c. search rules)
-    (λ c. search rules)
-    (λ c. search rules)
-    (λ c. search rules)
-    (λ c κs. search rules)
-    returns)
+pub returns : goal.returns
+returns c = let a = c.args in c.call_of.ensures ∙ part_call a.bytes.now a.k
