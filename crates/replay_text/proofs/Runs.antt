@@ -52,5 +52,5 @@ closed {plan} {told} lent p t w =
 pub closed_line : {m text text' : List ℕ} {end : ℕ} → Closed m text end text' → ForLine m (λ line. take end text' ≡ closing_text (length line.blocks) (line_plan line))
 closed_line c line h =
     let number = c.tells.line line h in
-    let plan = ((c.shows.line line h).fits (rw number at c.ranges)).1 in
+    let plan = ((c.shows.line line h).fits (rw number at c.fits)).1 in
     take_front c.ended.stored ∙ (λ i. closing_text (number i) (plan i))

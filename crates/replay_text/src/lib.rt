@@ -1,5 +1,7 @@
 // The text of calls that are run through a planner: a line for each call, and the two closing lines,
 // stored in bytes that the caller lends. A trace of any length is run chunk by chunk in one such list.
+#![tactic(auto)]
+
 ghost use Rattle.std.specs.Prelude.{◌≡◌, ◌+◌, ◌/◌, ◌<◌, ◌≤◌, min, length};
 ghost use Rattle.line.specs.Answers.{answer_means};
 ghost use Rattle.given_text.specs.Given.{WroteLine};

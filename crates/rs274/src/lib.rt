@@ -1,5 +1,7 @@
 // Programs in RS-274 text: what the lines do, the blocks between their positions, and the records that are written of them.
 // Nothing here knows a plan.
+#![tactic(auto)]
+
 mod line;
 mod state;
 pub mod tapes;
