@@ -8,9 +8,12 @@
 // value, 6 asks a machine, and any other checks a whole tape. If bytes are written, the line ends with all lent bytes as they
 // then are. A machine's limits are the values; two blocks, words as the values are, and the torque steps that are loaded are the
 // lent bytes.
-use libc::STDIN_FILENO;
+#![tactic(auto)]
+
 use machine::lists::LIMITS;
 use say::say;
+use std::io::{Stdin, Stdout};
+use streams::{Input, read_input};
 use values::{BLOCK, WORD, block_at, limits_at, word_at};
 
 mod machines;
@@ -26,18 +29,19 @@ const AFTER_BLOCK: usize = VALUES + BLOCK;
 const HEAD: usize = VALUES + LIMITS * WORD;
 
 // The call of a case on the lent bytes.
-fn answer(head: &[u8; HEAD], bytes: &mut [u8]) {
+fn answer(output: Stdout, head: &[u8; HEAD], bytes: &mut [u8]) {
     let kind = word_at(head, 0);
     if kind == 2 {
-        tapes::write_limits(limits_at(head, VALUES), bytes);
+        tapes::write_limits(output, limits_at(head, VALUES), bytes);
         return;
     }
     if kind == 3 {
-        tapes::write_record(block_at(head, VALUES), bytes);
+        tapes::write_record(output, block_at(head, VALUES), bytes);
         return;
     }
     if kind == 5 {
         tapes::write_record_at(
+            output,
             block_at(head, VALUES),
             bytes,
             word_at(head, AFTER_BLOCK) as usize,
@@ -45,41 +49,41 @@ fn answer(head: &[u8; HEAD], bytes: &mut [u8]) {
         return;
     }
     if kind == 6 {
-        machines::ask(limits_at(head, VALUES), bytes);
+        machines::ask(output, limits_at(head, VALUES), bytes);
         return;
     }
-    tapes::answer_read(kind, bytes);
+    tapes::answer_read(output, kind, bytes);
 }
 
 // Stores the next m bytes of the input at the beginning of the buffer.
-fn fill(m: usize, buffer: &mut [u8]) {
+fn fill(input: Stdin, m: usize, buffer: &mut [u8]) {
     if m <= buffer.len() {
-        io::read_full(STDIN_FILENO, &mut buffer[..m]);
+        read_input(input, &mut buffer[..m]);
     }
 }
 
 // Lends the first n bytes of the buffer to the call of a case.
-fn lend(n: usize, head: &[u8; HEAD], buffer: &mut [u8]) {
+fn lend(output: Stdout, n: usize, head: &[u8; HEAD], buffer: &mut [u8]) {
     if n <= buffer.len() {
-        answer(head, &mut buffer[..n]);
+        answer(output, head, &mut buffer[..n]);
     }
 }
 
-fn run_case(head: &[u8; HEAD], buffer: &mut [u8; 65_536]) {
-    fill(word_at(head, 2 * WORD) as usize, buffer);
-    lend(word_at(head, WORD) as usize, head, buffer);
-    say(b"\n");
+fn run_case(input: Stdin, output: Stdout, head: &[u8; HEAD], buffer: &mut [u8; 65_536]) {
+    fill(input, word_at(head, 2 * WORD) as usize, buffer);
+    lend(output, word_at(head, WORD) as usize, head, buffer);
+    say(output, b"\n");
 }
 
-fn main() {
-    let mut buffer = io::large_buffer();
+fn main(rt: HostRuntime) {
+    let mut buffer = [0u8; 65_536];
     let mut turns: u64 = 1_000_000;
     while 0 < turns {
         let mut head = [0u8; HEAD];
-        if io::read_full(STDIN_FILENO, &mut head) < HEAD {
+        let Input::Bytes(HEAD) = read_input(rt.stdin(), &mut head) else {
             return;
-        }
-        run_case(&head, &mut buffer);
+        };
+        run_case(rt.stdin(), rt.stdout(), &head, &mut buffer);
         turns -= 1;
     }
 }

@@ -4,6 +4,8 @@
 // plan. A trace with no whole limits, or limits or steps that do not pass, gets the one line `refused`
 // with number and place 0. A trace that ends inside a call gets such a line in that call's place, with
 // its place counted from 1, and then the two closing lines.
+#![tactic(auto)]
+
 use arguments::{STEPS, Start, read_start};
 use display::{Checked, refusal_number};
 use machine::Limits;
@@ -11,7 +13,8 @@ use options::Form;
 use planner::NUMBERS;
 use replay::CALL_BYTES;
 use replay_text::TEXT;
-use streams::{Input, cut_at, read_input, say, say_cut, say_error, say_refused};
+use std::io::Stderr;
+use streams::{Input, Streams, cut_at, read_input, say, say_cut, say_error, say_refused};
 use tape::{LIMITS_BYTES, LimitsRead};
 
 // Bytes of a chunk: as many calls as are run at a time.
@@ -31,20 +34,25 @@ enum Ended {
 }
 
 // Runs the calls of a chunk and writes their lines. Returns whether they were taken.
-fn run_chunk(bytes: &[u8], memory: &mut [u64; NUMBERS], text: &mut [u8; TEXT]) -> bool {
+fn run_chunk(
+    streams: Streams,
+    bytes: &[u8],
+    memory: &mut [u64; NUMBERS],
+    text: &mut [u8; TEXT],
+) -> bool {
     let end = replay_text::run_chunk(bytes, memory, text);
-    say(end, text)
+    say(streams.output, end, text)
 }
 
 // Runs all calls of the input, as long as it can be read and their lines are taken.
-fn run_calls(memory: &mut [u64; NUMBERS], text: &mut [u8; TEXT]) -> Ended {
+fn run_calls(streams: Streams, memory: &mut [u64; NUMBERS], text: &mut [u8; TEXT]) -> Ended {
     let mut chunk = [0u8; CHUNK];
     let mut calls: u64 = 0;
     while calls < MOST_CALLS {
-        let Input::Bytes(got) = read_input(&mut chunk) else {
+        let Input::Bytes(got) = read_input(streams.input, &mut chunk) else {
             return Ended::Unread;
         };
-        if !run_chunk(&chunk[..got], memory, text) {
+        if !run_chunk(streams, &chunk[..got], memory, text) {
             return Ended::Unwritten;
         }
         if got < CHUNK {
@@ -56,75 +64,88 @@ fn run_calls(memory: &mut [u64; NUMBERS], text: &mut [u8; TEXT]) -> Ended {
 }
 
 // Says that standard output did not take a text.
-fn say_unwritten() {
-    say_error(b"planreplay: standard output did not take all lines\n");
+fn say_unwritten(errors: Stderr) {
+    say_error(
+        errors,
+        b"planreplay: standard output did not take all lines\n",
+    );
 }
 
 // Says that standard input was not read to its end.
-fn say_unread() {
-    say_error(b"planreplay: standard input could not be read to its end\n");
+fn say_unread(errors: Stderr) {
+    say_error(
+        errors,
+        b"planreplay: standard input could not be read to its end\n",
+    );
 }
 
 // Writes the line of a call that the input ends inside, where there is one, and the closing lines.
 // Returns whether they were taken.
-fn finish(place: u64, memory: &[u64; NUMBERS], text: &mut [u8; TEXT]) -> bool {
-    if !say_cut(place, text) {
+fn finish(streams: Streams, place: u64, memory: &[u64; NUMBERS], text: &mut [u8; TEXT]) -> bool {
+    if !say_cut(streams.output, place, text) {
         return false;
     }
     let end = replay_text::close(memory, text);
-    say(end, text)
+    say(streams.output, end, text)
 }
 
 // Runs the calls behind the limits, and closes.
-fn run_to_end(memory: &mut [u64; NUMBERS], text: &mut [u8; TEXT]) {
-    match run_calls(memory, text) {
+fn run_to_end(streams: Streams, memory: &mut [u64; NUMBERS], text: &mut [u8; TEXT]) {
+    match run_calls(streams, memory, text) {
         Ended::At(place) => {
-            if !finish(place, memory, text) {
-                say_unwritten();
+            if !finish(streams, place, memory, text) {
+                say_unwritten(streams.errors);
             }
         }
-        Ended::Unwritten => say_unwritten(),
-        Ended::Unread => say_unread(),
+        Ended::Unwritten => say_unwritten(streams.errors),
+        Ended::Unread => say_unread(streams.errors),
     }
 }
 
 // Writes the one line of limits or steps that are refused.
-fn refuse(number: u64, text: &mut [u8; TEXT]) {
-    if !say_refused(number, 0, text) {
-        say_unwritten();
+fn refuse(streams: Streams, number: u64, text: &mut [u8; TEXT]) {
+    if !say_refused(streams.output, number, 0, text) {
+        say_unwritten(streams.errors);
     }
 }
 
 // Runs the calls of a planner with these limits and loaded steps, or says why there is none.
-fn replay(l: Limits, steps: &[u8], text: &mut [u8; TEXT]) {
+fn replay(streams: Streams, l: Limits, steps: &[u8], text: &mut [u8; TEXT]) {
     let mut memory = [0u64; NUMBERS];
     match planner::fresh(&mut memory, l, steps) {
-        Checked::Refused(why) => refuse(refusal_number(why), text),
-        Checked::Passed => run_to_end(&mut memory, text),
+        Checked::Refused(why) => refuse(streams, refusal_number(why), text),
+        Checked::Passed => run_to_end(streams, &mut memory, text),
     }
 }
 
 // What the bytes of the limits say decides, then the steps.
-fn start(head: &[u8], steps: &[u8], text: &mut [u8; TEXT]) {
+fn start(streams: Streams, head: &[u8], steps: &[u8], text: &mut [u8; TEXT]) {
     match tape::limits::read_limits(head) {
-        LimitsRead::Read(l) => replay(l, steps, text),
-        LimitsRead::Refused(why) => refuse(refusal_number(why), text),
+        LimitsRead::Read(l) => replay(streams, l, steps, text),
+        LimitsRead::Refused(why) => refuse(streams, refusal_number(why), text),
     }
 }
 
 // Runs the trace of standard input with loaded steps.
-fn replay_input(steps: &[u8]) {
-    let mut text = io::large_buffer();
+fn replay_input(streams: Streams, steps: &[u8]) {
+    let mut text = [0u8; TEXT];
     let mut head = [0u8; LIMITS_BYTES];
-    match read_input(&mut head) {
-        Input::Bytes(got) => start(&head[..got], steps, &mut text),
-        Input::Failed => say_unread(),
+    match read_input(streams.input, &mut head) {
+        Input::Bytes(got) => start(streams, &head[..got], steps, &mut text),
+        Input::Failed(_) => say_unread(streams.errors),
     }
 }
 
-fn main() {
+fn main(rt: HostRuntime) {
+    let streams = Streams {
+        input: rt.stdin(),
+        output: rt.stdout(),
+        errors: rt.stderr(),
+    };
     let mut steps = [0u8; STEPS];
     let start = read_start(
+        &rt,
+        streams,
         b"planreplay",
         b"usage: planreplay [--steps FILE] < trace\n\
         Runs recorded calls and writes a line for each: `added`, `refused N`, or the\n\
@@ -142,7 +163,7 @@ fn main() {
         &mut steps,
     );
     match start {
-        Start::Work(_, n) => replay_input(&steps[..n]),
+        Start::Work(_, n) => replay_input(streams, &steps[..n]),
         Start::Done => return,
     }
 }

@@ -2,12 +2,14 @@
 // built-in ones: a header, a line for each tape in the order of the names, and a line for all. A file that cannot be opened or
 // read is told on standard error; it has no line and counts nowhere. Where the output does not take a line, a line on standard
 // error says so, and nothing follows.
-use arguments::{FileAt, STEPS, Start, read_file_at, read_start, words_end};
-use libc::PATH_MAX;
+#![tactic(auto)]
+
+use arguments::{FileAt, PATH_MAX, STEPS, Start, read_file_at, read_start, words_end};
 use options::{Form, MANY};
 use report::NUMBERS;
 use report_text::{LINE, put_all, put_header, put_tape};
-use streams::{say, say_error};
+use std::rt::{Env, Files};
+use streams::{Streams, say, say_error};
 use tape::MOST_BYTES;
 use text::behind;
 
@@ -18,6 +20,7 @@ const TEXT: usize = LINE + PATH_MAX;
 
 // Adds a tape to the report and writes its line, with the name of its file. Returns whether that was taken.
 fn say_tape(
+    streams: Streams,
     tape: &[u8],
     steps: &[u8],
     name: &[u8],
@@ -26,26 +29,54 @@ fn say_tape(
 ) -> bool {
     let answer = report::add(all, tape, steps);
     let end = behind(put_tape(answer, name, text), 0);
-    say(end, text)
+    say(streams.output, end, text)
 }
 
 // Does that with the file whose name stands at this place; where it cannot be opened or read, only that is told. Returns
 // whether standard output took what was written.
-fn say_file(place: usize, steps: &[u8], all: &mut [u64; NUMBERS], text: &mut [u8]) -> bool {
+fn say_file<R: Env + Files>(
+    rt: &R,
+    streams: Streams,
+    place: usize,
+    steps: &[u8],
+    all: &mut [u64; NUMBERS],
+    text: &mut [u8],
+) -> bool {
     let mut name = [0u8; PATH_MAX];
     let mut tape = [0u8; INPUT];
-    match read_file_at(b"planreport", place, &mut name, &mut tape) {
-        FileAt::Bytes(named, got) => say_tape(&tape[..got], steps, &name[..named], all, text),
+    match read_file_at(
+        rt,
+        streams.errors,
+        b"planreport",
+        place,
+        &mut name,
+        &mut tape,
+    ) {
+        FileAt::Bytes(named, got) => say_tape(
+            streams,
+            &tape[..got],
+            steps,
+            &name[..named],
+            all,
+            text,
+        ),
         FileAt::Told => true,
     }
 }
 
 // Does that with each file that is named from this place on, as long as the lines are taken. Returns whether all were.
-fn say_files(first: usize, steps: &[u8], all: &mut [u64; NUMBERS], text: &mut [u8]) -> bool {
-    let end = words_end();
+fn say_files<R: Env + Files>(
+    rt: &R,
+    streams: Streams,
+    first: usize,
+    steps: &[u8],
+    all: &mut [u64; NUMBERS],
+    text: &mut [u8],
+) -> bool {
+    let end = words_end(rt);
     let mut place = first;
     while place < end {
-        if !say_file(place, steps, all, text) {
+        if !say_file(rt, streams, place, steps, all, text) {
             return false;
         }
         place += 1;
@@ -54,41 +85,57 @@ fn say_files(first: usize, steps: &[u8], all: &mut [u64; NUMBERS], text: &mut [u
 }
 
 // Writes the header.
-fn say_header(text: &mut [u8]) -> bool {
+fn say_header(streams: Streams, text: &mut [u8]) -> bool {
     let end = behind(put_header(text), 0);
-    say(end, text)
+    say(streams.output, end, text)
 }
 
 // Writes the line of all tapes.
-fn say_all(all: &[u64; NUMBERS], text: &mut [u8]) -> bool {
+fn say_all(streams: Streams, all: &[u64; NUMBERS], text: &mut [u8]) -> bool {
     let end = behind(put_all(all, text), 0);
-    say(end, text)
+    say(streams.output, end, text)
 }
 
 // Writes the report of the files that are named from this place on. Returns whether it was taken.
-fn say_report(first: usize, steps: &[u8], text: &mut [u8]) -> bool {
+fn say_report<R: Env + Files>(
+    rt: &R,
+    streams: Streams,
+    first: usize,
+    steps: &[u8],
+    text: &mut [u8],
+) -> bool {
     let mut all = [0u64; NUMBERS];
     report::fresh(&mut all);
-    if !say_header(text) {
+    if !say_header(streams, text) {
         return false;
     }
-    if !say_files(first, steps, &mut all, text) {
+    if !say_files(rt, streams, first, steps, &mut all, text) {
         return false;
     }
-    say_all(&all, text)
+    say_all(streams, &all, text)
 }
 
 // Reports on the files that are named from this place on, with loaded steps.
-fn report_names(first: usize, steps: &[u8]) {
+fn report_names<R: Env + Files>(rt: &R, streams: Streams, first: usize, steps: &[u8]) {
     let mut text = [0u8; TEXT];
-    if !say_report(first, steps, &mut text) {
-        say_error(b"planreport: standard output did not take the whole report\n");
+    if !say_report(rt, streams, first, steps, &mut text) {
+        say_error(
+            streams.errors,
+            b"planreport: standard output did not take the whole report\n",
+        );
     }
 }
 
-fn main() {
+fn main(rt: HostRuntime) {
+    let streams = Streams {
+        input: rt.stdin(),
+        output: rt.stdout(),
+        errors: rt.stderr(),
+    };
     let mut steps = [0u8; STEPS];
     let start = read_start(
+        &rt,
+        streams,
         b"planreport",
         b"usage: planreport [--steps FILE] TAPE...\n\
         Plans each tape and writes a header, a line for each tape, and a line for all.\n\
@@ -106,7 +153,7 @@ fn main() {
         &mut steps,
     );
     match start {
-        Start::Work(seen, n) => report_names(seen.first, &steps[..n]),
+        Start::Work(seen, n) => report_names(&rt, streams, seen.first, &steps[..n]),
         Start::Done => return,
     }
 }
