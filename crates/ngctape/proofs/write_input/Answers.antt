@@ -1,0 +1,10 @@
+-- `ngctape::write_input`: the bytes that were read are in the list.
+use Rattle.streams.proofs.Within.{bytes_within, part_sized}
+use Rattle.ngctape.proofs.write_input.Goals as goal
+
+pub slice_bounds-input-end : goal.slice_bounds-input-end
+slice_bounds-input-end c = bytes_within c.in-Bytes.is c.read_input.ensures
+
+pub slice_bounds-write_text-end : goal.slice_bounds-write_text-end
+slice_bounds-write_text-end c =
+    part_sized _ c.in-Bytes.is c.read_input.ensures

@@ -1,0 +1,10 @@
+-- `planreport::main`: the steps that were read are in the list.
+use Rattle.arguments.proofs.Read.{start_within, part_sized}
+use Rattle.planreport.proofs.main.Goals as goal
+
+pub slice_bounds-steps-end : goal.slice_bounds-steps-end
+slice_bounds-steps-end c = start_within _ c.in-Work.is c.read_start-start.ensures
+
+pub slice_bounds-report_names-end : goal.slice_bounds-report_names-end
+slice_bounds-report_names-end c =
+    part_sized _ (start_within _ c.in-Work.is c.read_start-start.ensures)
