@@ -1,5 +1,7 @@
 // A planner of at most `PLACES` blocks in `NUMBERS` numbers that the caller lends. Every content of the memory
 // is answered: nothing is required of it. What the calls answer and leave is in specs/Calls.antt.
+#![tactic(auto)]
+
 ghost use Rattle.std.specs.Prelude.{replicate};
 ghost use Rattle.display.specs.Display.{checked_means};
 ghost use Rattle.line.specs.Answers.{add_means, answer_means, show_means, take_means};

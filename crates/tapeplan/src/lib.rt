@@ -1,4 +1,6 @@
 // The plan of a whole tape, from rest to rest, into a lent list of squared speeds, (µm/s)².
+#![tactic(auto)]
+
 mod junctions;
 pub mod sheet;
 mod survey;

@@ -1,0 +1,14 @@
+-- `planner::memory::block_in`: the moves from their words, the rest as it stands.
+use Rattle.std.proofs.Common.{◌∙◌, rules}
+use Rattle.arith.proofs.SignedLaws.{field_back}
+use Rattle.planner.specs.View.{place_from}
+use Rattle.planner.proofs.Blocks.{block_is}
+use Rattle.planner.proofs.memory.block_in.Goals as goal
+
+pub returns : goal.returns
+unfolding place_from
+returns c =
+    block_is 64 (place_from c.args.memory.now c.args.at) _ _ _ _ c.labelled_block.ensures
+    (field_back c.signed_word-x.result c.signed_word-x.type_inv ∙ c.signed_word-x.ensures)
+    (field_back c.signed_word-y.result c.signed_word-y.type_inv ∙ c.signed_word-y.ensures)
+    (field_back c.signed_word-z.result c.signed_word-z.type_inv ∙ c.signed_word-z.ensures)

@@ -1,0 +1,16 @@
+-- `planner::ring::brake_pass`: from junction k on the list holds the backward pass. From the laws of the pass in place, with the numbers read for block k. The measure is k.
+use Rattle.std.proofs.Common.{◌≡◌, ℕ, ◌+◌, ◌-◌, ◌<◌, ◌≤◌, List, length, set, sym, arith, rules}
+use Rattle.profile.specs.Line.{number_at}
+use Rattle.profile.specs.Passes.{Braked, brake_from}
+use Rattle.profile.proofs.InPlace.{store_end, store_brake}
+use Rattle.line.specs.Ring.{slot, spans_in}
+use Rattle.line.proofs.Shows.{spans_in_length}
+use Rattle.planner.specs.View.{base_of, place_from, view_of}
+use Rattle.planner.proofs.Shows.{span_cap, span_reach}
+use Rattle.planner.proofs.ring.brake_pass.Given as goal
+
+abbrev pub invariant-loop-k : goal.invariant-loop-k
+invariant-loop-k l = (l.k ≤ l.n) × (length l.list ≡ l.n + 1) × Braked (spans_in (view_of l.memory) l.n 0) (number_at l.list) l.k
+
+abbrev pub decreases-loop-k : goal.decreases-loop-k
+decreases-loop-k l = l.k
