@@ -2,12 +2,12 @@
 // each does, and what it promises, is said there.
 #![tactic(auto)]
 
-mod orders;
-mod planners;
-mod plans;
-mod reports;
-mod tapes;
-mod texts;
+pub mod orders;
+pub mod planners;
+pub mod plans;
+pub mod reports;
+pub mod tapes;
+pub mod texts;
 
 ghost use Rattle.std.specs.Prelude.{◌≡◌};
 ghost use Rattle.fullerecru.specs.Version.{version_number};
