@@ -2,6 +2,8 @@
 // state, the last accepted order's rounded point and how many orders were accepted, is in `NUMBERS` numbers that the caller
 // lends. Every content of them is answered: nothing is required of it. What the calls answer and leave is in
 // specs/Calls.antt.
+#![tactic(auto)]
+
 ghost use Rattle.std.specs.Prelude.{◌≡◌};
 ghost use Rattle.line.specs.Answers.{add_means, answer_means};
 ghost use Rattle.host.specs.Calls.{Ordered};

@@ -1,5 +1,7 @@
 // The listing of a whole tape as document 01 words it, for every bytes: a header and one line for each block, or the one
 // line of the refusal. A tape is planned once, and its text comes in parts, each stored in bytes that the caller lends.
+#![tactic(auto)]
+
 ghost use Rattle.std.specs.Prelude.{◌≡◌, ◌+◌, ◌<◌, ◌≤◌, length};
 ghost use Rattle.text.specs.Text.{refused_at};
 ghost use Rattle.text.specs.Store.{Stored};

@@ -3,6 +3,8 @@
 // tape, then `CALL_BYTES` a call: 32-bit words, most significant byte first: kind (0 is a take, any
 // other number an add), moves X, Y, Z by two's complement, feed, radius, mark. A take's other words
 // play no part.
+#![tactic(auto)]
+
 ghost use Rattle.std.specs.Prelude.{◌≡◌, ◌*◌, ◌/◌, length};
 ghost use Rattle.planner.specs.Calls.{Called};
 ghost use Rattle.tape.specs.Answers.{limits_means};

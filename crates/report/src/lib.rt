@@ -1,6 +1,8 @@
 // What held tapes back: the figures of a tape, and one report over up to 100 tapes. The figures are the tape's blocks, their
 // total length, the greatest peak, and its inner junctions counted by what held them. A report is `NUMBERS` numbers that the
 // caller lends; every content of them is answered. What the calls answer and leave is in specs/Figures.antt and Report.antt.
+#![tactic(auto)]
+
 mod counting;
 pub mod held;
 pub mod tapes;

@@ -1,6 +1,8 @@
 // The text of a report: the line `blocks length peak feed corner chord reach tape`, a line for each tape with its name, and a
 // line for all. Each is stored at the beginning of bytes that the caller lends, whole, or not at all where it has too little
 // room: it has at most `LINE` bytes beside the name, and the header at most as many.
+#![tactic(auto)]
+
 ghost use Rattle.std.specs.Prelude.{◌≡◌, length};
 ghost use Rattle.report.specs.Figures.{figure_count, figured_means};
 ghost use Rattle.report.specs.Report.{all_of};

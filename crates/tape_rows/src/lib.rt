@@ -1,4 +1,6 @@
 // A tape's list: a row of numbers for each block, in a list that the caller lends.
+#![tactic(auto)]
+
 ghost use Rattle.std.specs.Prelude.{◌≡◌, ◌+◌, ◌*◌, ◌<◌, ◌≤◌, length};
 ghost use Rattle.tape.specs.Tape.{records_in};
 ghost use Rattle.tapeplan.specs.Sheet.{rows_in};

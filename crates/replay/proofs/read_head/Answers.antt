@@ -1,0 +1,24 @@
+-- `replay::read_head` meets its contract: the tests are the definition's, and the rest is what `read_limits` ensures.
+use mathlib.Core.Path.{sym, ◌∙◌}
+use Rattle.display.specs.declared.Refusal.TheVariants as why
+use Rattle.tape.specs.Tape.{limits_at}
+use Rattle.display.specs.Display.{by_number, given, refused}
+use Rattle.tape.specs.Answers.{read_limits}
+use Rattle.display.proofs.Answers.{refuses_by}
+use Rattle.tape.proofs.Checks.{limits_long}
+use Rattle.replay.proofs.Heads.{head_short, head_ragged, head_limits}
+use borrow.Author.Rules.{rules}
+use Rattle.replay.proofs.read_head.Goals as goal
+
+pub returns-then-trace-lt-LIMITS_BYTES : goal.returns-then-trace-lt-LIMITS_BYTES
+returns-then-trace-lt-LIMITS_BYTES c = refuses_by _ why.Ragged (head_short _ c.if-trace-lt-LIMITS_BYTES.true)
+
+pub returns-then-trace-ne0 : goal.returns-then-trace-ne0
+returns-then-trace-ne0 c = refuses_by _ why.Ragged (head_ragged _ c.if-trace-lt-LIMITS_BYTES.false c.if-trace-ne0.true)
+
+pub returns : goal.returns
+unfolding read_limits
+returns c =
+    let s = c.args.trace.now in
+    let n = limits_long s c.if-trace-lt-LIMITS_BYTES.false ∙ sym (head_limits s c.if-trace-lt-LIMITS_BYTES.false c.if-trace-ne0.false) in
+    c.read_limits.ensures ∙ (λ i. by_number (n i) (given (limits_at s)) (refused (n i)))

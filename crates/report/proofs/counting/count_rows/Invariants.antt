@@ -1,0 +1,11 @@
+-- `report::counting::count_rows`: before row k the figures are those of the rows before it. From the laws of rows.
+use Rattle.std.proofs.Common.{◌≡◌, ◌-◌, ◌≤◌, ap, ◌∙◌, arith, rules}
+use Rattle.report.specs.Rows.{row_figures}
+use Rattle.report.proofs.Rows.{countable_fewer, rows_none}
+use Rattle.report.proofs.counting.count_rows.Given as goal
+
+abbrev pub invariant-loop-k : goal.invariant-loop-k
+invariant-loop-k l = (l.k ≤ l.n) × (l.f ≡ row_figures l.sheet l.plan l.k)
+
+abbrev pub decreases-loop-k : goal.decreases-loop-k
+decreases-loop-k l = l.n - l.k

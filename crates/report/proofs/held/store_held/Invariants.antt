@@ -1,0 +1,18 @@
+-- `report::held::store_held`: what is left to store leads to the end. From the laws of copies and of lists.
+use Rattle.std.proofs.Common.{◌≡◌, ℕ, ◌+◌, ◌-◌, ◌≤◌, List, length, sym, refl, ◌∙◌, arith, rules}
+use Rattle.profile.specs.Line.{number_at}
+use Rattle.report.proofs.Copies.{Copying, copy_all}
+use Rattle.report.specs.Counts.{list_from}
+use Rattle.report.specs.Rows.{held_from, row_held}
+use Rattle.report.proofs.Rows.{held_between, list_length, list_next, over_all}
+use Rattle.report.proofs.held.store_held.Given as goal
+
+-- what is stored at last
+abbrev pub target : (sheet plan list : List ℕ) → List ℕ
+target sheet plan list = list_from (row_held sheet plan) 0 (length list)
+
+abbrev pub invariant-loop-i : goal.invariant-loop-i
+invariant-loop-i l = (l.i ≤ length l.initial.list) × (length l.list ≡ length l.initial.list) × Copying (target l.sheet l.plan l.initial.list) l.initial.list l.list l.i
+
+abbrev pub decreases-loop-i : goal.decreases-loop-i
+decreases-loop-i l = length l.initial.list - l.i
