@@ -11,6 +11,8 @@ pub mod reports;
 pub mod tapes;
 pub mod texts;
 
+pub use numbers::COUNT;
+
 ghost use Rattle.std.specs.Prelude.{◌≡◌};
 ghost use Rattle.fullerecru.specs.Version.{version_number};
 
