@@ -25,12 +25,12 @@ use Rattle.arguments.specs.Starts.{Carried, Started, start_of}
 -- of a file
 pub file_within : (i : Input) (room : ℕ) → input.Within room i → Within room (file_of i)
 file_within (read.Bytes n) room h = h
-file_within read.Failed room h = tt
+file_within (read.Failed why) room h = tt
 
 -- of a file and its name
 pub at_within : (f : FileRead) (named names room : ℕ) → named ≤ names → Within room f → AtWithin names room (at_of f named)
 at_within (Bytes n) named names room g h = (g, h)
-at_within (Failed fault) named names room g h = tt
+at_within (Failed fault why) named names room g h = tt
 
 pub at_list : (r : FileAt) (names room : ℕ) → AtWithin names room r → ListWithin room r
 at_list (at.Bytes named n) names room h = h.1

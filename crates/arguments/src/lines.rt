@@ -1,14 +1,18 @@
 // What is written: the usage or the version, or in one line on standard error what is wrong.
 ghost use Rattle.std.specs.Prelude.{◌≡◌, ◌+◌, ◌≤◌, map, length};
-ghost use Rattle.io.specs.Counts.{IsPrefixLen};
+ghost use Rattle.std.specs.Counts.{IsPrefixLen};
 ghost use Rattle.text.specs.Store.{Stored};
 ghost use Rattle.arguments.specs.Lines.{around_size, failed_line, line_of, missing_line, name_size, shown_as, version_line, wrong_line};
 
 use crate::Fault;
 use crate::scan::read_word;
 use arith::whole::fewer;
-use libc::{STDERR_FILENO, STDOUT_FILENO};
 use options::kinds::{STEPS, WIDTH};
+use std::fmt;
+use std::fmt::Write;
+use std::io::{Error, Stderr};
+use std::rt::Env;
+use streams::{Streams, say, say_error};
 use text::{behind, put_bytes};
 
 // Bytes of a program's name that are shown, of a word, and most of the words around them.
@@ -19,6 +23,8 @@ const WORD: usize = 256;
 const AROUND: usize = 62;
 // Bytes of the longest line.
 const LINE: usize = NAME + WORD + AROUND;
+// Bytes of an error's text that are kept: the system's longest reason, and what `std` adds to it.
+const REASON: usize = 96;
 
 // How a byte is shown in a line: a control character, such as a line feed, as a question mark.
 fn shown(byte: u8) -> u8
@@ -124,66 +130,122 @@ fn store_failed(line: &mut [u8], program: &[u8], fault: Fault, name: &[u8]) -> u
 }
 
 // Reads the word at a place as it is shown in a line. Returns how many bytes it has.
-fn read_shown(place: usize, word: &mut [u8]) -> usize
+fn read_shown<R: Env>(rt: &R, place: usize, word: &mut [u8]) -> usize
     ensures { IsPrefixLen result word.new }
 {
-    let got = read_word(place, word);
+    let got = read_word(rt, place, word);
     show(word);
     got
 }
 
+// The text of an error, as much of it as has room.
+#[derive(Drop)]
+struct Reason {
+    text: [u8; REASON],
+    size: usize,
+}
+
+impl fmt::Write for Reason {
+    fn write_str(&mut self, part: &str) -> fmt::Result {
+        for byte in part.as_bytes() {
+            if self.size < REASON {
+                self.text[self.size] = *byte;
+                self.size += 1;
+            }
+        }
+        Ok(())
+    }
+}
+
+// Bytes of a reason in an error's text: behind it `std` adds the system's number, in brackets.
+fn reason_size(text: &[u8]) -> usize
+    ensures { result ≤ length text.now }
+{
+    let mut size: usize = 0;
+    while size < text.len() {
+        if text[size] == b'(' {
+            return size.saturating_sub(1);
+        }
+        size += 1;
+    }
+    size
+}
+
+// Says the reason of an error.
+fn say_reason(errors: Stderr, why: Error) {
+    let mut reason = Reason {
+        text: [0u8; REASON],
+        size: 0,
+    };
+    let _ = write!(reason, "{why}");
+    let kept = fewer(reason.size, REASON);
+    let size = reason_size(&reason.text[..kept]);
+    say_error(errors, &reason.text[..size]);
+}
+
 // Says which word is wrong, as much of it as is shown.
-pub fn say_wrong(program: &[u8], reads: bool, place: usize)
+pub fn say_wrong<R: Env>(rt: &R, errors: Stderr, program: &[u8], reads: bool, place: usize)
     requires { length program.now ≤ name_size }
 {
     let mut word = [0u8; WORD];
-    let got = read_shown(place, &mut word);
+    let got = read_shown(rt, place, &mut word);
     let mut line = [0u8; LINE];
     let end = store_wrong(&mut line, program, reads, &word[..got]);
-    io::write_all(STDERR_FILENO, &line[..end]);
+    say_error(errors, &line[..end]);
 }
 
 // Says what is missing.
-pub fn say_missing(program: &[u8], numbers: bool, kind: u8)
+pub fn say_missing(errors: Stderr, program: &[u8], numbers: bool, kind: u8)
     requires { length program.now ≤ name_size }
 {
     let mut line = [0u8; LINE];
     let end = store_missing(&mut line, program, numbers, kind);
-    io::write_all(STDERR_FILENO, &line[..end]);
+    say_error(errors, &line[..end]);
 }
 
-// Says that the file of this name could not be opened or read, as much of the name as is shown, and why: `os::fail` adds the
-// system's reason, that of the last call that failed, and the line's end.
-pub fn say_failed(program: &[u8], fault: Fault, name: &mut [u8])
+// Says that the file of this name could not be opened or read, as much of the name as is shown, and why: the system's reason
+// stands behind a colon and a space.
+pub fn say_failed(errors: Stderr, program: &[u8], fault: Fault, why: Error, name: &mut [u8])
     requires { length program.now ≤ name_size }
 {
     show(name);
     let named = fewer(name.len(), WORD);
     let mut line = [0u8; LINE];
     let end = store_failed(&mut line, program, fault, &name[..named]);
-    os::fail(&line[..end]);
+    say_error(errors, &line[..end]);
+    say_error(errors, b": ");
+    say_reason(errors, why);
+    say_error(errors, b"\n");
 }
 
 // Says that standard output did not take a text.
-fn say_untaken(program: &[u8], matter: &[u8]) {
-    io::write_all(STDERR_FILENO, program);
-    io::write_all(STDERR_FILENO, matter);
+fn say_untaken(errors: Stderr, program: &[u8], matter: &[u8]) {
+    say_error(errors, program);
+    say_error(errors, matter);
 }
 
 // Writes the usage to standard output.
-pub fn say_usage(program: &[u8], usage: &[u8]) {
-    if !io::write_all(STDOUT_FILENO, usage) {
-        say_untaken(program, b": standard output did not take the usage\n");
+pub fn say_usage(streams: Streams, program: &[u8], usage: &[u8]) {
+    if !say(streams.output, usage.len(), usage) {
+        say_untaken(
+            streams.errors,
+            program,
+            b": standard output did not take the usage\n",
+        );
     }
 }
 
 // Writes the program's name and version to standard output.
-pub fn say_version(program: &[u8])
+pub fn say_version(streams: Streams, program: &[u8])
     requires { length program.now ≤ name_size }
 {
     let mut line = [0u8; LINE];
     let end = store_version(&mut line, program);
-    if !io::write_all(STDOUT_FILENO, &line[..end]) {
-        say_untaken(program, b": standard output did not take the version\n");
+    if !say(streams.output, end, &line) {
+        say_untaken(
+            streams.errors,
+            program,
+            b": standard output did not take the version\n",
+        );
     }
 }

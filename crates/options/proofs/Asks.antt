@@ -14,7 +14,7 @@ use Rattle.options.specs.declared.Asked.{Asked}
 use Rattle.options.specs.declared.Asked.TheVariants.{Work, Usage, Version, Wrong, Missing}
 use Rattle.options.specs.Kinds.{word_of}
 use Rattle.options.specs.Scan.{asked, asked_by, none_seen}
-use Rattle.options.specs.Line.{AsksUsage, AsksVersion, AsksWork, CommandLine, line}
+use Rattle.options.specs.Line.{AsksUsage, AsksVersion, AsksWork, CommandLine}
 use Rattle.options.proofs.Ends.{Clear, Ends, flag, flag_none, line_end, scan}
 use Rattle.options.proofs.Backs.{line_back}
 
