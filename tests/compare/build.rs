@@ -19,7 +19,7 @@ fn main() {
         let archive = folder.join(format!("lib{name}.a"));
         assert!(
             archive.exists(),
-            "{}: make it by rt staticlib {name}",
+            "{}: make it by tools/archive {name}",
             archive.display()
         );
         println!("cargo:rerun-if-changed={}", archive.display());

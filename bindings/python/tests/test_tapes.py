@@ -37,7 +37,7 @@ class Lists(unittest.TestCase):
 
     def test_listings_of_the_program(self):
         if not (PROGRAMS / "planlist").is_file():
-            self.skipTest("target/bin/planlist is not built (rt check planlist)")
+            self.skipTest("target/bin/planlist is not built (make programs)")
         steps = ROOT / "examples" / "steps" / "soft-motors.steps"
         for path in TAPES:
             with self.subTest(tape=path.name):
@@ -153,7 +153,7 @@ class Traces(unittest.TestCase):
         trace = (ROOT / "examples/traces/shop-traffic.trace").read_bytes()
         lines = program("planreplay", trace)
         if lines is None:
-            self.skipTest("target/bin/planreplay is not built (rt check planreplay)")
+            self.skipTest("target/bin/planreplay is not built (make programs)")
         self.assertEqual(self.lines(trace), lines.decode().splitlines())
 
     def test_moves_with_signs(self):
@@ -179,7 +179,7 @@ class Texts(unittest.TestCase):
             self.assertEqual(fullerecru.text(text.decode()), tape[24:])
             made = program("ngctape", text, ROOT / "examples/tapes/square-pocket.tape")
             if made is None:
-                self.skipTest("target/bin/ngctape is not built (rt check ngctape)")
+                self.skipTest("target/bin/ngctape is not built (make programs)")
             self.assertEqual(tape, made)
 
     def test_worked_texts(self):
@@ -229,7 +229,7 @@ class Orders(unittest.TestCase):
         orders = (ROOT / "examples/orders/cam-host.orders").read_bytes()
         lines = program("planorders", orders)
         if lines is None:
-            self.skipTest("target/bin/planorders is not built (rt check planorders)")
+            self.skipTest("target/bin/planorders is not built (make programs)")
         self.assertEqual(self.lines(orders), lines.decode().splitlines())
 
 

@@ -1,5 +1,7 @@
 // Arithmetic for C, so that the comparison and the bench can call it with every number: a block's squared moves add up to
 // few of them. It is no part of the library.
+#![tactic(auto)]
+
 ghost use Rattle.std.specs.Prelude.{◌≡◌};
 ghost use Rattle.arith.specs.Root.{root_of};
 

@@ -1,5 +1,7 @@
 // The worked examples of document 01. Its table stands in specs/ and is proved in proofs/; the code
 // has the limits of the machine that they run on.
+#![tactic(auto)]
+
 ghost use Rattle.std.specs.Prelude.{◌≡◌};
 ghost use Rattle.cases.specs.Shop.{limits_m};
 

@@ -1,5 +1,7 @@
 // A client of the planner: worked results of document 01, each shown from the planner's promises alone, and
 // demand 3 of calls that it makes.
+#![tactic(auto)]
+
 ghost use Rattle.std.specs.Prelude.{true, ◌≡◌};
 ghost use Rattle.client.specs.Work.{Gives, Ramps, block_of};
 

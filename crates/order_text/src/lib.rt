@@ -3,6 +3,8 @@
 // of any number are run chunk by chunk in one such list. An event is 68 bytes, most significant byte
 // first: its kind, one word of 32 bits (0 is a take, 1 a rapid, 2 a feed, any other a curve chord), then
 // eight doubles by their bits: target X, Y, Z, offset X, Y, Z, speed, radius.
+#![tactic(auto)]
+
 mod events;
 
 ghost use Rattle.std.specs.Prelude.{◌+◌, ◌≤◌, ◌≡◌, length};
