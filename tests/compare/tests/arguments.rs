@@ -44,6 +44,7 @@ const ABSENT: &[u8] = b"absent.steps";
 
 const NO_FILE: &str = "No such file or directory";
 const TOO_LONG: &str = "File name too long";
+const NO_TEXT: &str = "Invalid or incomplete multibyte or wide character";
 
 /// A program, and a file that it would read.
 struct Tool {
@@ -562,7 +563,8 @@ fn a_long_word_is_told() {
 }
 
 /// The word behind `--steps` is its file, whatever it is; a file that is named
-/// alone has a name that is no option's.
+/// alone has a name that is no option's. One whose name is no UTF-8 text is told,
+/// as the programs have no path for it.
 #[test]
 fn a_file_is_opened_by_any_name() {
     let names: [&[u8]; 6] = [
@@ -586,7 +588,15 @@ fn a_file_is_opened_by_any_name() {
                 .current_dir(&named)
                 .stdin(File::open(tool.input()).expect("an example"))
                 .spawn();
-            tool.expect_worked(&words, output_of(child.expect("a program")));
+            let output = output_of(child.expect("a program"));
+            match std::str::from_utf8(name) {
+                Ok(_) => tool.expect_worked(&words, output),
+                Err(_) => {
+                    let told = format!("cannot open '{}': {NO_TEXT}", shown(name));
+                    assert_eq!(output.errors, format!("{}: {told}\n", tool.name));
+                    assert_eq!(output.bytes, b"", "{words:?}");
+                }
+            }
             count += 1;
         }
         let near = [b"./", tool.file].concat();

@@ -42,6 +42,11 @@ const ABSENT: Trouble = ("open", "No such file or directory");
 const BELOW: Trouble = ("open", "Not a directory");
 const TOO_LONG: Trouble = ("open", "File name too long");
 const CLOSED: Trouble = ("open", "Permission denied");
+/// A name that is no UTF-8 text: the programs have no path for it.
+const NO_TEXT: Trouble = (
+    "open",
+    "Invalid or incomplete multibyte or wide character",
+);
 const DIRECTORY: Trouble = ("read", "Is a directory");
 const BROKEN: Trouble = ("read", "Input/output error");
 
@@ -70,7 +75,11 @@ impl Folder {
     /// Makes a file of a name that lies in the folder.
     fn put(&mut self, name: &[u8], bytes: &[u8]) {
         fs::write(self.path.join(OsStr::from_bytes(name)), bytes).expect("a file");
-        self.know(name, Ok(bytes.to_vec()));
+        let content = match std::str::from_utf8(name) {
+            Ok(_) => Ok(bytes.to_vec()),
+            Err(_) => Err(NO_TEXT),
+        };
+        self.know(name, content);
     }
 
     /// Notes what a name has.
