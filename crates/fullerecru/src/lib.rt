@@ -3,6 +3,8 @@
 // `fullerecru_report_fresh` and `fullerecru_position` returns the number on the display: 0 for accepted, else the refusal, which
 // leaves what was lent as it was (the place of a record or a line at fault is written even so). Nothing is required but pointers
 // to as many bytes, numbers or doubles as are named, and that what a call may write is lent to it once only.
+#![tactic(auto)]
+
 mod numbers;
 pub mod orders;
 pub mod planners;
@@ -11,10 +13,10 @@ pub mod reports;
 pub mod tapes;
 pub mod texts;
 
-pub use numbers::COUNT;
-
 ghost use Rattle.std.specs.Prelude.{◌≡◌};
 ghost use Rattle.fullerecru.specs.Version.{version_number};
+
+pub use numbers::COUNT;
 
 // The version, as FULLERECRU_VERSION of the header: 1,000,000 times the major one, 1,000 times the minor one, and the patch.
 #[unsafe(no_mangle)]
