@@ -1,5 +1,5 @@
 -- The figures of a tape: its blocks, their total length, µm, the greatest peak, (µm/s)², and its inner junctions by what held them.
-use Rattle.std.specs.Prelude.{ℕ, suc, ◌-◌, List, [], ◌∷◌, length}
+use Rattle.std.specs.Prelude.{ℕ, suc, ◌-◌, List, [], ◌∷◌}
 use Rattle.display.specs.Display.{Fault, Outcome, by_number, given, refused, refusal_number, ◌at◌}
 use Rattle.profile.specs.Line.{number_at}
 use Rattle.machine.specs.Numbers.{length_of, numbers_of, ramp_of}

@@ -4,7 +4,7 @@ use mathlib.Core.List.{List, ◌∷◌, []}
 use Prim.Native.Nat.{ℕ, ◌+◌, ◌*◌, ◌≤◌, ◌<◌}
 use native.Mathlib.Decide.{dec_lt}
 use native.Mathlib.Omega.{arith}
-use lib.ListN.{length, set}
+use lib.ListN.{set}
 use lib.Seq.{sets, length-sets}
 use Rattle.profile.specs.Line.{number_at}
 use Rattle.machine.specs.declared.Machine.{Machine}

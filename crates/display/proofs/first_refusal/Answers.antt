@@ -1,5 +1,4 @@
 -- `display::first_refusal`: a check that refused decides.
-use borrow.Author.Rules.{rules}
 use mathlib.Core.Path.{refl}
 use Rattle.display.proofs.Answers.{refused_first}
 use Rattle.display.proofs.first_refusal.Goals as goal

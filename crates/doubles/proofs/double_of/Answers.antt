@@ -1,5 +1,4 @@
 -- `doubles::double_of` meets its contract: above the infinity's pattern, the sign apart, every pattern is a NaN's, and 0 / 0 is the NaN.
-use borrow.Author.Rules.{rules}
 use mathlib.Core.Path.{◌≡◌, refl, sym, subst, ◌∙◌}
 use mathlib.Core.Bool.{true}
 use borrow.Author.Tests.{lt-ltb, le-ltb}

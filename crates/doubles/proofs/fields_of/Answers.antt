@@ -1,5 +1,4 @@
 -- `doubles::fields_of` meets its contract: a double is what its pattern is read as, and the pattern's fields are in their ranges.
-use borrow.Author.Rules.{rules}
 use mathlib.Core.Path.{sym, ap, ◌∙◌}
 use native.Mathlib.Omega.{arith}
 use denote.Floats.{passes}

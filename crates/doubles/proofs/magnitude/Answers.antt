@@ -1,5 +1,4 @@
 -- `doubles::magnitude` meets its contract, by the exponent's field: 0, that of a double of 2 ^ 20 or more, or between them.
-use borrow.Author.Rules.{rules}
 use mathlib.Core.Path.{ap, ◌∙◌}
 use Prim.Native.Nat.{◌+◌, min}
 use native.Mathlib.Nat.{le_trans, le_of_lt, pos_of_ne-zero}

@@ -1,5 +1,4 @@
 -- `doubles::nearest` meets its contract: what is left of the division and what is missing to the next multiple say which half it is in.
-use borrow.Author.Rules.{rules}
 use native.Mathlib.Nat.{mod-lt, le_of_lt, div-le_self}
 use native.Mathlib.Omega.{arith}
 use Rattle.doubles.proofs.Closest.{closest_down, closest_up, closest_even, closest_odd}

@@ -1,5 +1,4 @@
 -- `doubles::nearest_shift` meets its contract: by a power from 2 ^ 64 on, a number below 2 ^ 63 is less than a half.
-use borrow.Author.Rules.{rules}
 use Prim.Native.Nat.{ℕ, ◌*◌, ◌^◌, ◌<◌}
 use mathlib.Core.Path.{sym, ap, subst, ◌∙◌}
 use native.Mathlib.Nat.{lt_of_lt_of_le}

@@ -1,6 +1,5 @@
 -- `doubles::read` meets its contract: a NaN differs from itself, an exponent's field of ones is an infinity's, and any other double is read by
 -- its magnitude and its sign.
-use borrow.Author.Rules.{rules}
 use mathlib.Core.Path.{◌≡◌, sym, ap, ◌∙◌}
 use Prim.Native.Nat.{ℕ}
 use native.Mathlib.Nat.{le_of_suc-le-suc}

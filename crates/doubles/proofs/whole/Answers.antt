@@ -1,5 +1,4 @@
 -- `doubles::whole` meets its contract: a number up to 2 ^ 53 either way is converted as it is.
-use borrow.Author.Rules.{rules}
 use mir.Facts.{to_z-of_z}
 use Rattle.doubles.proofs.Positions.{whole_fits}
 use Rattle.doubles.proofs.whole.Goals as goal

@@ -1,10 +1,10 @@
 -- `fields::load`: the number so far is that of the bytes passed, from `number_next`; it fits a word, from `next_lt`.
 use mathlib.Core.Path.{◌≡◌, refl}
-use Prim.Native.Nat.{◌≤◌, ◌<◌, ◌+◌, ◌-◌, ◌*◌, ◌^◌}
+use Prim.Native.Nat.{◌<◌, ◌+◌, ◌*◌, ◌^◌}
 use native.Mathlib.Omega.{arith}
-use lib.ListN.{length, get_or, take, drop}
+use lib.ListN.{length, get_or}
 use Rattle.fields.specs.Layouts.{joined}
-use Rattle.fields.specs.Bytes.{Bytes, number_of}
+use Rattle.fields.specs.Bytes.{number_of}
 use Rattle.fields.proofs.Bytes.{number_next, next_lt, part_lt}
 use borrow.Author.Rules.{rules}
 use Rattle.fields.proofs.load.Goals as goal

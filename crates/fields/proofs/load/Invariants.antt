@@ -1,12 +1,8 @@
 -- `fields::load`: the number so far is that of the bytes passed, from `number_next`; it fits a word, from `next_lt`.
-use mathlib.Core.Path.{◌≡◌, refl}
-use Prim.Native.Nat.{◌≤◌, ◌<◌, ◌+◌, ◌-◌, ◌*◌, ◌^◌}
-use native.Mathlib.Omega.{arith}
-use lib.ListN.{length, get_or, take, drop}
-use Rattle.fields.specs.Layouts.{joined}
+use mathlib.Core.Path.{◌≡◌}
+use Prim.Native.Nat.{◌≤◌, ◌-◌}
+use lib.ListN.{take, drop}
 use Rattle.fields.specs.Bytes.{Bytes, number_of}
-use Rattle.fields.proofs.Bytes.{number_next, next_lt, part_lt}
-use borrow.Author.Rules.{rules}
 use Rattle.fields.proofs.load.Given as goal
 
 abbrev pub invariant-loop-i : goal.invariant-loop-i

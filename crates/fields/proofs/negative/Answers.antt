@@ -5,7 +5,6 @@ use mir.Val.{to_z}
 use mir.Facts.{to_z-of_z, to_z_pos}
 use lib.IntN.{negsuc, ◌-ℤ◌}
 use Rattle.fields.proofs.Signed.{flip_natural}
-use borrow.Author.Rules.{rules}
 use Rattle.fields.proofs.negative.Goals as goal
 use Rattle.fields.proofs.negative.Goals.{Start}
 

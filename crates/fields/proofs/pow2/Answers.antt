@@ -3,7 +3,6 @@ use mathlib.Core.Path.{◌≡◌}
 use Prim.Native.Nat.{◌*◌, ◌%◌, ◌^◌}
 use native.Mathlib.Nat.{one-mul, mod-eq_of_lt}
 use lib.Pow.{pow_pos, pow-lt}
-use borrow.Author.Rules.{rules}
 use Rattle.fields.proofs.pow2.Goals as goal
 
 pub returns : goal.returns

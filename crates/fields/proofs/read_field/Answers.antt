@@ -5,7 +5,6 @@ use native.Mathlib.Omega.{arith}
 use Rattle.fields.specs.Bytes.{Bytes}
 use Rattle.fields.specs.Fields.{field_of}
 use Rattle.fields.proofs.Fields.{field_number, field_lt}
-use borrow.Author.Rules.{rules}
 use Rattle.fields.proofs.read_field.Goals as goal
 
 pub returns : goal.returns

@@ -1,7 +1,6 @@
 -- `fields::read_word`: two halves side by side are the word, from `number_add`.
 use native.Mathlib.Omega.{arith}
 use Rattle.fields.proofs.Bytes.{number_add}
-use borrow.Author.Rules.{rules}
 use Rattle.fields.proofs.read_word.Goals as goal
 
 pub returns : goal.returns

@@ -3,7 +3,6 @@ use mathlib.Core.Path.{sym}
 use Prim.Native.Nat.{ℕ, ◌+◌, ◌*◌, ◌/◌, ◌%◌, ◌^◌, ◌≤◌, ◌<◌}
 use native.Mathlib.Omega.{arith}
 use Rattle.fields.proofs.Parts.{with_fits, with_def}
-use borrow.Author.Rules.{rules}
 use Rattle.fields.proofs.replaced.Goals as goal
 use Rattle.fields.proofs.replaced.Goals.{After-pow2-size}
 

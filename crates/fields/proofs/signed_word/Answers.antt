@@ -4,7 +4,6 @@ use native.Mathlib.Omega.{arith}
 use mir.Syntax.{w64}
 use mir.Facts.{to_z_pos, to_z-of_z}
 use Rattle.fields.proofs.Signed.{word_low, word_high}
-use borrow.Author.Rules.{rules}
 use Rattle.fields.proofs.signed_word.Goals as goal
 
 pub returns-then-word-lt9223372036854775808 : goal.returns-then-word-lt9223372036854775808

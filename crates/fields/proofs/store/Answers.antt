@@ -1,9 +1,7 @@
 -- `fields::store`: the bytes left to write lead to the end state, from `store_next`.
 use mathlib.Core.Path.{◌≡◌, refl, sym, ◌∙◌}
-use Prim.Native.Nat.{◌≤◌}
 use native.Mathlib.Omega.{arith}
-use lib.ListN.{length, length-set}
-use Rattle.fields.specs.Bytes.{with_bytes}
+use lib.ListN.{length-set}
 use Rattle.fields.proofs.Bytes.{store_next, store_none}
 use borrow.Author.Rules.{rules}
 use Rattle.fields.proofs.store.Goals as goal

@@ -1,11 +1,8 @@
 -- `fields::store`: the bytes left to write lead to the end state, from `store_next`.
-use mathlib.Core.Path.{◌≡◌, refl, sym, ◌∙◌}
+use mathlib.Core.Path.{◌≡◌}
 use Prim.Native.Nat.{◌≤◌}
-use native.Mathlib.Omega.{arith}
-use lib.ListN.{length, length-set}
+use lib.ListN.{length}
 use Rattle.fields.specs.Bytes.{with_bytes}
-use Rattle.fields.proofs.Bytes.{store_next, store_none}
-use borrow.Author.Rules.{rules}
 use Rattle.fields.proofs.store.Given as goal
 
 abbrev pub invariant-loop-i : goal.invariant-loop-i

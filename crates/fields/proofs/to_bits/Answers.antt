@@ -9,7 +9,6 @@ use lib.Dec.{T}
 use lib.IntN.{ℤ, pos}
 use lib.Signed.{non_neg, lt_z}
 use Rattle.fields.proofs.Signed.{bits_natural, bits_negative, bits_lt, natural_is}
-use borrow.Author.Rules.{rules}
 use Rattle.fields.proofs.to_bits.Goals as goal
 use Rattle.fields.proofs.to_bits.Goals.{Else-z-lt0}
 

@@ -10,7 +10,6 @@ use lib.IntN.{ℤ, ◌-ℤ◌}
 use lib.Pow.{pow_mono}
 use Rattle.fields.specs.Signed.{signed_of}
 use Rattle.fields.proofs.Signed.{signed_moved, signed_size}
-use borrow.Author.Rules.{rules}
 use Rattle.fields.proofs.to_signed.Goals as goal
 use Rattle.fields.proofs.to_signed.Goals.{After-pow2-size}
 

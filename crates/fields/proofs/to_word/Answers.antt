@@ -7,7 +7,6 @@ use lib.Dec.{T}
 use lib.IntN.{ℤ, pos, nat_abs}
 use lib.Signed.{non_neg, lt_z}
 use Rattle.fields.proofs.Signed.{word_natural, word_negative, natural_is}
-use borrow.Author.Rules.{rules}
 use Rattle.fields.proofs.to_word.Goals as goal
 use Rattle.fields.proofs.to_word.Goals.{Else-z-lt0}
 

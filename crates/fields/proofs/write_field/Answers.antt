@@ -5,7 +5,6 @@ use native.Mathlib.Omega.{arith}
 use Rattle.fields.specs.Bytes.{Bytes, with_bytes}
 use Rattle.fields.specs.Fields.{with_part}
 use Rattle.fields.proofs.Fields.{write_part}
-use borrow.Author.Rules.{rules}
 use Rattle.fields.proofs.write_field.Goals as goal
 
 pub returns : goal.returns

@@ -1,7 +1,6 @@
 -- `given_text::put_numbers`: from the length of a row of 64-bit numbers.
 use native.Mathlib.Omega.{arith}
 use Rattle.text.proofs.Lines.{row_most}
-use borrow.Author.Rules.{rules}
 use Rattle.given_text.proofs.put_numbers.Goals as goal
 
 pub returns : goal.returns

@@ -1,5 +1,4 @@
 -- `given_text::store_given`: the line of what it shows.
-use borrow.Author.Rules.{rules}
 use Rattle.given_text.specs.Given.{given_text}
 use Rattle.given_text.proofs.store_given.Goals as goal
 

@@ -1,7 +1,6 @@
 -- `given_text::store_listed`: the row has room.
 use native.Mathlib.Omega.{arith}
 use Rattle.given_text.proofs.GivenLines.{wrote}
-use borrow.Author.Rules.{rules}
 use Rattle.given_text.proofs.store_listed.Goals as goal
 
 pub returns : goal.returns

@@ -4,7 +4,6 @@ use native.Mathlib.Omega.{arith}
 use Rattle.display.specs.Display.{Fault}
 use Rattle.tapeplan.specs.Planned.{planned_means}
 use Rattle.tapeplan.proofs.Wholes.{whole_refused}
-use borrow.Author.Rules.{rules}
 use Rattle.listing.proofs.plan_lent.Goals as goal
 
 pub returns-in-Refused : goal.returns-in-Refused

@@ -1,6 +1,5 @@
 -- `listing::put_block`: the line of what is read of the row. From `row_put`.
 use Rattle.listing.proofs.Lines.{row_put}
-use borrow.Author.Rules.{rules}
 use Rattle.listing.proofs.put_block.Goals as goal
 
 pub returns : goal.returns

@@ -4,7 +4,6 @@ use native.Mathlib.Omega.{arith}
 use Rattle.text.proofs.Store.{stored_with_room}
 use Rattle.listing.proofs.Lengths.{header_length}
 use Rattle.listing.proofs.Parts.{first_stored, later_stored}
-use borrow.Author.Rules.{rules}
 use Rattle.listing.proofs.put_head.Goals as goal
 
 pub returns-then-p-gt0 : goal.returns-then-p-gt0

@@ -1,11 +1,11 @@
 -- `listing::put_lines`: a turn stores one line more. From the laws of lines.
-use mathlib.Core.Path.{◌≡◌, refl}
-use Prim.Native.Nat.{◌+◌, ◌-◌, ◌<◌, ◌≤◌}
+use mathlib.Core.Path.{refl}
+use Prim.Native.Nat.{◌+◌, ◌<◌, ◌≤◌}
 use native.Mathlib.Omega.{arith}
 use lib.ListN.{length}
 use Rattle.given_text.specs.Given.{most_given}
 use Rattle.listing.specs.Parts.{part_blocks}
-use Rattle.listing.proofs.Lines.{Storing, storing_all, storing_next}
+use Rattle.listing.proofs.Lines.{storing_all, storing_next}
 use borrow.Author.Rules.{rules}
 use Rattle.listing.proofs.put_lines.Goals as goal
 use Rattle.listing.proofs.put_lines.Goals.{In-loop-k}

@@ -1,12 +1,9 @@
 -- `listing::put_lines`: a turn stores one line more. From the laws of lines.
-use mathlib.Core.Path.{◌≡◌, refl}
-use Prim.Native.Nat.{◌+◌, ◌-◌, ◌<◌, ◌≤◌}
-use native.Mathlib.Omega.{arith}
+use mathlib.Core.Path.{◌≡◌}
+use Prim.Native.Nat.{◌+◌, ◌-◌, ◌≤◌}
 use lib.ListN.{length}
-use Rattle.given_text.specs.Given.{most_given}
 use Rattle.listing.specs.Parts.{part_blocks}
-use Rattle.listing.proofs.Lines.{Storing, storing_all, storing_next}
-use borrow.Author.Rules.{rules}
+use Rattle.listing.proofs.Lines.{Storing}
 use Rattle.listing.proofs.put_lines.Given as goal
 
 abbrev pub invariant-loop-k : goal.invariant-loop-k

@@ -6,7 +6,6 @@ use Rattle.text.specs.Text.{refused_at}
 use Rattle.text.proofs.Lines.{refused_at_most}
 use Rattle.text.proofs.Store.{stored_with_room}
 use Rattle.listing.proofs.Parts.{first_stored, later_stored}
-use borrow.Author.Rules.{rules}
 use Rattle.listing.proofs.put_refusal.Goals as goal
 
 pub returns-then-p-gt0 : goal.returns-then-p-gt0

@@ -1,14 +1,9 @@
 -- `passes::brake_pass` meets its contract. The invariant: from junction k on the list holds the backward pass. The measure is k.
-use borrow.Author.Rules.{rules}
-use mathlib.Core.Path.{◌≡◌, sym}
-use native.Mathlib.Omega.{arith}
-use mathlib.Core.List.{List}
-use Prim.Native.Nat.{ℕ, ◌+◌, ◌-◌, ◌<◌, ◌≤◌}
-use lib.ListN.{length, set}
+use mathlib.Core.Path.{◌≡◌}
+use Prim.Native.Nat.{◌+◌, ◌≤◌}
+use lib.ListN.{length}
 use Rattle.profile.specs.Line.{number_at}
-use Rattle.profile.specs.Passes.{Braked, brake_from}
-use Rattle.profile.proofs.InPlace.{store_end, store_brake}
-use Rattle.passes.proofs.LentLaws.{line_length, line_cap, line_reach}
+use Rattle.profile.specs.Passes.{Braked}
 use Rattle.passes.specs.Lent.{line_of}
 use Rattle.passes.proofs.brake_pass.Given as goal
 

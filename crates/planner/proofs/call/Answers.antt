@@ -1,5 +1,4 @@
 -- `planner::call`: what add and take promise, said of the call and of the answer as values.
-use Rattle.std.proofs.Common.{rules}
 use Rattle.line.specs.Answers.{add_means, take_means}
 use Rattle.line.specs.Blocks.{call_means}
 use Rattle.planner.specs.Calls.{Called}

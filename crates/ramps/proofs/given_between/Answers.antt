@@ -1,5 +1,4 @@
 -- `ramps::given_between` meets its contract, from the ramp.
-use Rattle.std.proofs.Common.{rules}
 use Rattle.line.specs.Answers.{given_between}
 use Rattle.ramps.proofs.given_between.Goals as goal
 

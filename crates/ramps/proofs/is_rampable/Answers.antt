@@ -1,5 +1,5 @@
 -- `ramps::is_rampable` meets its contract: where a sum wraps the numbers are not sized.
-use Rattle.std.proofs.Common.{Bool, ◌&&◌, leb, ap, ◌∙◌, rules}
+use Rattle.std.proofs.Common.{Bool, ◌&&◌, leb, ap, ◌∙◌}
 use Rattle.machine.proofs.Rampables.{rampable_wrapped}
 use Rattle.ramps.proofs.is_rampable.Goals as goal
 

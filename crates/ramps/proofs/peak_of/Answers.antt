@@ -1,5 +1,4 @@
 -- `ramps::peak_of` meets its contract.
-use Rattle.std.proofs.Common.{rules}
 use Rattle.machine.specs.Numbers.{peak_of}
 use Rattle.ramps.proofs.peak_of.Goals as goal
 

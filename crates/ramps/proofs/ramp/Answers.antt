@@ -1,5 +1,5 @@
 -- `ramps::ramp` meets its contract: the peak is neither below the entry nor below the exit.
-use Rattle.std.proofs.Common.{ℕ, ◌-◌, ◌^◌, ◌<◌, ◌≤◌, ap, ◌∙◌, arith, rules}
+use Rattle.std.proofs.Common.{ℕ, ◌-◌, ◌^◌, ◌<◌, ◌≤◌, ap, ◌∙◌, arith}
 use Rattle.machine.specs.declared.Numbers.{Numbers}
 use Rattle.machine.specs.declared.Ramp.{Ramp}
 use Rattle.machine.specs.Numbers.{up_of, down_of, ramp_of}

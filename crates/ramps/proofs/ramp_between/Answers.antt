@@ -1,5 +1,5 @@
 -- `ramps::ramp_between` meets its contract, by the two answers of the test.
-use Rattle.std.proofs.Common.{◌≡◌, Bool, cond, sym, ap, ◌∙◌, rules}
+use Rattle.std.proofs.Common.{◌≡◌, Bool, cond, sym, ap, ◌∙◌}
 use Rattle.machine.specs.Numbers.{rampable, ramp_of, no_ramp}
 use Rattle.machine.proofs.Rampables.{rampable_says}
 use Rattle.ramps.proofs.ramp_between.Goals as goal

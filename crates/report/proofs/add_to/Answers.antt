@@ -1,5 +1,5 @@
 -- `report::add_to`: how many tapes were accepted decides, and then the tape's own checks. From the laws of answers.
-use Rattle.std.proofs.Common.{ℕ, ◌+◌, ◌<◌, List, sym, ap, ◌∙◌, arith, rules}
+use Rattle.std.proofs.Common.{◌+◌, ◌<◌, sym, ap, ◌∙◌, arith}
 use Rattle.display.proofs.Answers.{given_is, refused_is}
 use Rattle.tapeplan.specs.Planned.{whole_fault, whole_refusal}
 use Rattle.report.specs.Figures.{figured_means, figures_of, tape_figures}

@@ -1,5 +1,5 @@
 -- `report::fresh` meets its contract.
-use Rattle.std.proofs.Common.{ap, ◌∙◌, rules}
+use Rattle.std.proofs.Common.{ap, ◌∙◌}
 use Rattle.report.specs.Report.{report_numbers}
 use Rattle.report.proofs.fresh.Goals as goal
 

@@ -1,5 +1,5 @@
 -- `report::store`: the list is stored whole.
-use Rattle.std.proofs.Common.{arith, length-set, rules}
+use Rattle.std.proofs.Common.{arith, length-set}
 use Rattle.machine.proofs.Runs.{sets_all}
 use Rattle.report.specs.Report.{report_numbers}
 use Rattle.report.proofs.store.Goals as goal

@@ -1,5 +1,4 @@
 -- `report::with_figures` meets its contract.
-use Rattle.std.proofs.Common.{rules}
 use Rattle.report.specs.Report.{with_figures}
 use Rattle.report.proofs.with_figures.Goals as goal
 

@@ -1,6 +1,5 @@
 -- `tape_rows::list_tape`: the answer of planning decides, and then the list's length. From the laws of a planned tape, of its rows and of lent lists.
 use mathlib.Core.Path.{◌≡◌, sym, ap, ◌∙◌}
-use mathlib.Core.List.{List}
 use Prim.Native.Nat.{ℕ, ◌*◌}
 use native.Mathlib.Omega.{arith}
 use Rattle.tapeplan.specs.Planned.{planned_means}
@@ -8,7 +7,6 @@ use Rattle.tapeplan.proofs.Sized.{filled_refused, filled_unfit, filled_whole}
 use Rattle.tapeplan.proofs.Wholes.{planned_few, planned_passed}
 use Rattle.tape_rows.specs.Rows.{row_size, rows_from, rows_size, tape_rows}
 use Rattle.tape_rows.proofs.TapeRows.{planned_rows}
-use borrow.Author.Rules.{rules}
 use Rattle.tape_rows.proofs.list_tape.Goals as goal
 use Rattle.tape_rows.proofs.list_tape.Goals.{After-records_in-n}
 

@@ -1,12 +1,11 @@
 -- `tape_rows::put_row`: the row of what is read.
 use mathlib.Core.Path.{ap, ◌∙◌}
-use Prim.Native.Nat.{◌+◌, ◌-◌, min}
+use Prim.Native.Nat.{◌+◌, min}
 use native.Mathlib.Omega.{arith}
 use Rattle.profile.specs.Line.{number_at}
 use Rattle.tapeplan.specs.Sheet.{measured_at}
 use Rattle.line.specs.Answers.{ramp_between}
 use Rattle.tape_rows.specs.Rows.{shown_row}
-use borrow.Author.Rules.{rules}
 use Rattle.tape_rows.proofs.put_row.Goals as goal
 
 pub measured_at-last-requires : goal.measured_at-last-requires

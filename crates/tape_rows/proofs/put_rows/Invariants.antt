@@ -1,12 +1,8 @@
 -- `tape_rows::put_rows`: before row k those before it are stored. From the laws of a tape's rows.
-use mathlib.Core.Path.{◌≡◌, sym, ap, ◌∙◌}
-use Prim.Native.Nat.{◌+◌, ◌-◌, ◌*◌, ◌≤◌, ◌<◌}
-use native.Mathlib.Omega.{arith}
-use lib.ListN.{length, take, drop, length-drop}
-use lib.Seq.{length-take-le, take_all}
+use mathlib.Core.Path.{◌≡◌}
+use Prim.Native.Nat.{◌-◌, ◌*◌, ◌≤◌}
+use lib.ListN.{length, take}
 use Rattle.tape_rows.specs.Rows.{row_size, rows_from, sheet_row}
-use Rattle.tape_rows.proofs.TapeRows.{rows_none, rows_stored}
-use borrow.Author.Rules.{rules}
 use Rattle.tape_rows.proofs.put_rows.Given as goal
 
 abbrev pub invariant-loop-k : goal.invariant-loop-k

@@ -2,7 +2,6 @@
 use native.Mathlib.Omega.{arith}
 use lib.ListN.{length-set}
 use Rattle.machine.proofs.Runs.{sets_all}
-use borrow.Author.Rules.{rules}
 use Rattle.tape_rows.specs.Rows.{shown_row}
 use Rattle.tape_rows.proofs.store_row.Goals as goal
 

@@ -1,6 +1,5 @@
 -- `text::digits`: the digits counted and those of the rest are one more than all, from `length_more`.
 use mathlib.Core.Path.{◌≡◌}
-use Prim.Native.Nat.{◌+◌}
 use native.Mathlib.Omega.{arith}
 use lib.ListN.{length}
 use borrow.Author.Rules.{rules}

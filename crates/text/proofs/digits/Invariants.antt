@@ -1,11 +1,8 @@
 -- `text::digits`: the digits counted and those of the rest are one more than all, from `length_more`.
 use mathlib.Core.Path.{◌≡◌}
 use Prim.Native.Nat.{◌+◌}
-use native.Mathlib.Omega.{arith}
 use lib.ListN.{length}
-use borrow.Author.Rules.{rules}
 use Rattle.text.specs.Text.{decimal}
-use Rattle.text.proofs.Decimal.{length_one, length_more, length_positive, length_word}
 use Rattle.text.proofs.digits.Given as goal
 
 abbrev pub invariant-loop-rest : goal.invariant-loop-rest

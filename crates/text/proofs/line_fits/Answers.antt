@@ -7,7 +7,6 @@ use borrow.Author.Tests.{lt-leb}
 use Rattle.text.specs.Text.{spaced, line}
 use Rattle.text.proofs.Store.{same_test}
 use Rattle.text.proofs.Lines.{length_line}
-use borrow.Author.Rules.{rules}
 use Rattle.text.proofs.line_fits.Goals as goal
 
 pub returns-then-room-words : goal.returns-then-room-words

@@ -1,6 +1,5 @@
 -- `text::put_bytes`: the room is tested, from `stored` and `no_room`.
 use native.Mathlib.Omega.{arith}
-use borrow.Author.Rules.{rules}
 use Rattle.text.proofs.Store.{stored, no_room}
 use Rattle.text.proofs.put_bytes.Goals as goal
 

@@ -6,7 +6,6 @@ use lib.ListN.{length}
 use Rattle.text.specs.Text.{line}
 use borrow.Author.Tests.{leb-true, leb-false}
 use Rattle.text.proofs.Store.{stored, no_room}
-use borrow.Author.Rules.{rules}
 use Rattle.text.proofs.put_line.Goals as goal
 use Rattle.text.proofs.put_line.Goals.{Start}
 

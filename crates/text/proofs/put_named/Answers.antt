@@ -7,7 +7,6 @@ use Rattle.text.specs.Text.{line, named}
 use borrow.Author.Tests.{leb-true, leb-false}
 use Rattle.text.proofs.Store.{stored, no_room}
 use Rattle.text.proofs.Lines.{length_line, length_named}
-use borrow.Author.Rules.{rules}
 use Rattle.text.proofs.put_named.Goals as goal
 use Rattle.text.proofs.put_named.Goals.{Start}
 

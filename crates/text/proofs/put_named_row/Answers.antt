@@ -4,7 +4,6 @@ use lib.ListN.{get_or}
 use Rattle.text.proofs.Decimal.{length_word}
 use Rattle.text.proofs.Store.{take_front, length_front, within}
 use Rattle.text.proofs.Lines.{named_row_none, named_row_some}
-use borrow.Author.Rules.{rules}
 use Rattle.text.proofs.put_named_row.Goals as goal
 
 pub returns-then-numbers-eq0 : goal.returns-then-numbers-eq0

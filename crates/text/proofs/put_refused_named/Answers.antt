@@ -1,7 +1,6 @@
 -- `text::put_refused_named`: the number is among the words of a line, from `take_front`.
 use native.Mathlib.Omega.{arith}
 use Rattle.text.proofs.Store.{take_front, length_front, within}
-use borrow.Author.Rules.{rules}
 use Rattle.text.proofs.put_refused_named.Goals as goal
 
 pub slice_bounds-words-end : goal.slice_bounds-words-end

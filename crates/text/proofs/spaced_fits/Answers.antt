@@ -1,7 +1,7 @@
 -- `text::spaced_fits`: the longest numbers fit, from `spaced_most`; else what is left over is the same, counted from any number on,
 -- from `length_spaced`.
 use mathlib.Core.Path.{◌≡◌, refl}
-use Prim.Native.Nat.{ℕ, ◌+◌, ◌-◌, ◌≤◌}
+use Prim.Native.Nat.{ℕ, ◌+◌}
 use native.Mathlib.Omega.{arith}
 use mathlib.Core.List.{List}
 use lib.ListN.{length, get_or, drop}

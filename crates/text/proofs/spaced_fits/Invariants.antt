@@ -1,15 +1,9 @@
 -- `text::spaced_fits`: the longest numbers fit, from `spaced_most`; else what is left over is the same, counted from any number on,
 -- from `length_spaced`.
-use mathlib.Core.Path.{◌≡◌, refl}
-use Prim.Native.Nat.{ℕ, ◌+◌, ◌-◌, ◌≤◌}
-use native.Mathlib.Omega.{arith}
-use mathlib.Core.List.{List}
-use lib.ListN.{length, get_or, drop}
-use lib.Seq.{drop-length}
-use borrow.Author.Tests.{le-leb, lt-leb}
-use Rattle.text.specs.Text.{decimal, spaced}
-use Rattle.text.proofs.Lines.{length_spaced, spaced_most}
-use borrow.Author.Rules.{rules}
+use mathlib.Core.Path.{◌≡◌}
+use Prim.Native.Nat.{◌+◌, ◌-◌, ◌≤◌}
+use lib.ListN.{length, drop}
+use Rattle.text.specs.Text.{spaced}
 use Rattle.text.proofs.spaced_fits.Given as goal
 
 abbrev pub invariant-loop-i : goal.invariant-loop-i

@@ -1,12 +1,10 @@
 -- `text::store_bytes`: the bytes left to store lead to the same list, from `bytes_turn`.
 use mathlib.Core.Path.{◌≡◌, refl, sym, ◌∙◌}
-use Prim.Native.Nat.{◌+◌, ◌-◌, ◌≤◌}
 use native.Mathlib.Nat.{add-zero}
 use native.Mathlib.Omega.{arith}
-use lib.ListN.{length, drop, length-set}
+use lib.ListN.{length, length-set}
 use lib.Seq.{drop-length}
 use borrow.Author.Rules.{rules}
-use Rattle.text.specs.Store.{put}
 use Rattle.text.proofs.Store.{put_none, bytes_turn}
 use Rattle.text.proofs.store_bytes.Goals as goal
 

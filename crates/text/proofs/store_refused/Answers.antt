@@ -6,7 +6,6 @@ use lib.ListN.{length}
 use Rattle.text.specs.Text.{decimal, spaced, refused_words}
 use Rattle.text.proofs.Decimal.{length_word}
 use Rattle.text.proofs.Store.{stored_next}
-use borrow.Author.Rules.{rules}
 use Rattle.text.proofs.store_refused.Goals as goal
 
 -- A number has at most 20 digits.

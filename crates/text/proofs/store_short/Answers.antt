@@ -1,6 +1,5 @@
 -- `text::store_short`: the last three digits behind those of the thousands, from `decimal_last` and `stored_next`.
 use native.Mathlib.Omega.{arith}
-use borrow.Author.Rules.{rules}
 use Rattle.text.proofs.Decimal.{decimal_last, length_last}
 use Rattle.text.proofs.Store.{stored_next}
 use Rattle.text.proofs.store_short.Goals as goal

@@ -1,12 +1,11 @@
 -- `text::store_spaced`: the numbers left to store lead to the same list, from `spaced_turn`.
 use mathlib.Core.Path.{◌≡◌, refl, sym, ◌∙◌}
-use Prim.Native.Nat.{ℕ, ◌+◌, ◌-◌, ◌≤◌}
+use Prim.Native.Nat.{ℕ, ◌+◌}
 use native.Mathlib.Omega.{arith}
 use mathlib.Core.List.{List}
 use lib.ListN.{length, get_or, drop, length-set}
 use lib.Seq.{drop-length}
 use Rattle.text.specs.Text.{decimal, spaced}
-use Rattle.text.specs.Store.{put}
 use Rattle.text.proofs.Store.{put_none}
 use Rattle.text.proofs.Lines.{length_spaced, spaced_turn}
 use borrow.Author.Rules.{rules}

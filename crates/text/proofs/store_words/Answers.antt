@@ -1,7 +1,6 @@
 -- `text::store_words`: the words and the numbers one behind the other, from `stored_next`.
 use native.Mathlib.Omega.{arith}
 use Rattle.text.proofs.Store.{stored_next}
-use borrow.Author.Rules.{rules}
 use Rattle.text.proofs.store_words.Goals as goal
 
 pub returns : goal.returns

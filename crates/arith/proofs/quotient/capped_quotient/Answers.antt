@@ -1,5 +1,5 @@
 -- `arith::quotient::capped_quotient` meets its contract: a quotient of 2^64 or more passes every cap; a smaller one is worked out.
-use Rattle.std.proofs.Common.{ℕ, ◌*◌, ◌/◌, ◌^◌, min, sym, ap, ◌∙◌, mul-le-mul, arith, rules}
+use Rattle.std.proofs.Common.{ℕ, ◌*◌, ◌/◌, ◌^◌, min, sym, ap, ◌∙◌, mul-le-mul, arith}
 use Rattle.arith.proofs.QuotientLaws.{quotient_cap, quotient_positive}
 use Rattle.arith.proofs.quotient.capped_quotient.Goals as goal
 

@@ -1,5 +1,5 @@
 -- `arith::quotient::digit` meets its contract. The invariant: q is a digit that is not too small, and its product with d's leading half is within `high`. The measure is q.
-use Rattle.std.proofs.Common.{◌+◌, ◌-◌, ◌*◌, ◌/◌, ◌%◌, ◌^◌, ◌<◌, ◌≤◌, sym, le-div_iff_mul-le, arith, rules}
+use Rattle.std.proofs.Common.{◌+◌, ◌-◌, ◌*◌, ◌/◌, ◌%◌, ◌^◌, ◌<◌, ◌≤◌, sym, le-div_iff_mul-le, arith}
 use native.Mathlib.Nat.{min-le_left, div-eq_of_lt-le}
 use Rattle.arith.proofs.Division.{two_digits, half_product, first_try, digit_fits, digit_surely_fits, digit_too_large}
 use Rattle.arith.proofs.quotient.digit.Goals as goal

@@ -1,5 +1,5 @@
 -- `arith::quotient::quotient` meets its contract: two digits of a long division by the scaled divisor.
-use Rattle.std.proofs.Common.{◌≡◌, ℕ, ◌+◌, ◌-◌, ◌*◌, ◌/◌, ◌%◌, ◌^◌, ◌<◌, refl, ◌∙◌, mod-lt, arith, rules}
+use Rattle.std.proofs.Common.{◌≡◌, ℕ, ◌+◌, ◌-◌, ◌*◌, ◌/◌, ◌%◌, ◌^◌, ◌<◌, refl, ◌∙◌, mod-lt, arith}
 use Rattle.arith.proofs.Division.{Scaled, scaled, digit_below, digits_join}
 use Rattle.arith.proofs.quotient.quotient.Goals as goal
 use Rattle.arith.proofs.quotient.quotient.Goals.{After-digit, After-digit-first, After-pow2, After-pow2-scale, After-remainder-second, After-zeros-shift, Start}

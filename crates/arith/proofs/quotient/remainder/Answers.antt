@@ -1,5 +1,5 @@
 -- `arith::quotient::remainder` meets its contract: the difference modulo 2^64 is the difference, which is below d.
-use Rattle.std.proofs.Common.{◌-◌, ◌*◌, ◌/◌, ◌%◌, ◌^◌, ◌≤◌, arith, rules}
+use Rattle.std.proofs.Common.{◌-◌, ◌*◌, ◌/◌, ◌%◌, ◌^◌, ◌≤◌, arith}
 use Rattle.arith.proofs.Division.{half_product, digit_below, lead_within, remainder_wraps}
 use Rattle.arith.proofs.quotient.remainder.Goals as goal
 use Rattle.arith.proofs.quotient.remainder.Goals.{Start}

@@ -1,5 +1,5 @@
 -- `arith::root::first_guess` meets its contract: Newton's step is at least the root, and from that power of two it is below 2^32.
-use Rattle.std.proofs.Common.{◌+◌, ◌/◌, ◌^◌, ◌<◌, arith, rules}
+use Rattle.std.proofs.Common.{◌+◌, ◌/◌, ◌^◌, ◌<◌, arith}
 use Rattle.arith.proofs.RootLaws.{guess_below, newton_above}
 use Rattle.arith.proofs.root.first_guess.Goals as goal
 use Rattle.arith.proofs.root.first_guess.Goals.{After-pow2-s}

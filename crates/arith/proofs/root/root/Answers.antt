@@ -1,5 +1,5 @@
 -- `arith::root::root` meets its contract. The invariant: r is above 0, at least the root, and its square fits; Newton's laws keep it. The measure is r.
-use Rattle.std.proofs.Common.{◌+◌, ◌-◌, ◌*◌, ◌/◌, ◌^◌, ◌<◌, ◌≤◌, arith, rules}
+use Rattle.std.proofs.Common.{◌-◌, ◌/◌, ◌<◌, ◌≤◌, arith}
 use Rattle.arith.proofs.Division.{half_product}
 use Rattle.arith.proofs.RootLaws.{grown_above, newton_above, newton_falls}
 use Rattle.arith.proofs.root.root.Goals as goal

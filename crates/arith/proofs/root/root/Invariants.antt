@@ -1,7 +1,5 @@
 -- `arith::root::root` meets its contract. The invariant: r is above 0, at least the root, and its square fits; Newton's laws keep it. The measure is r.
-use Rattle.std.proofs.Common.{◌+◌, ◌-◌, ◌*◌, ◌/◌, ◌^◌, ◌<◌, ◌≤◌, arith, rules}
-use Rattle.arith.proofs.Division.{half_product}
-use Rattle.arith.proofs.RootLaws.{grown_above, newton_above, newton_falls}
+use Rattle.std.proofs.Common.{◌+◌, ◌*◌, ◌^◌, ◌<◌}
 use Rattle.arith.proofs.root.root.Given as goal
 
 abbrev pub invariant-loop-below : goal.invariant-loop-below

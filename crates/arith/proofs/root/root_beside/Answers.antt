@@ -1,5 +1,5 @@
 -- `arith::root::root_beside` meets its contract: r or the number below it is the one whose square is not above n, while the next number's is.
-use Rattle.std.proofs.Common.{sub-add_cancel, arith, rules}
+use Rattle.std.proofs.Common.{sub-add_cancel, arith}
 use Rattle.arith.proofs.Division.{half_product}
 use Rattle.arith.proofs.RootLaws.{root_found}
 use Rattle.arith.proofs.root.root_beside.Goals as goal

@@ -1,5 +1,5 @@
 -- `arith::signed::gap` meets its contract, by the sign of s.
-use Rattle.std.proofs.Common.{◌≡◌, ℕ, ◌+◌, ◌-◌, nat_abs, sym, ap, ◌∙◌, arith, rules}
+use Rattle.std.proofs.Common.{◌≡◌, ℕ, ◌+◌, ◌-◌, nat_abs, sym, ap, ◌∙◌, arith}
 use Rattle.arith.specs.Signed.{gap_of}
 use Rattle.arith.proofs.SignedLaws.{read_back_lem, sign_back, magnitude_below, not_negative, gap_negative, gap_positive}
 use Rattle.arith.proofs.signed.gap.Goals as goal

@@ -1,5 +1,5 @@
 -- `arith::signed::signed_by` meets its contract: 0 less n is -n, and neither leaves 64 bits.
-use Rattle.std.proofs.Common.{◌≡◌, ℕ, ◌^◌, ◌<◌, Bool, cond, ℤ, pos, ◌-ℤ◌, neg_ℤ, sym, ap, ◌∙◌, arith, w64, to_z, rules}
+use Rattle.std.proofs.Common.{◌≡◌, ℕ, ◌^◌, ◌<◌, Bool, cond, ℤ, pos, ◌-ℤ◌, neg_ℤ, sym, ap, ◌∙◌, arith, w64, to_z}
 use lib.IntN.{+ℤ_idl}
 use mir.Facts.{to_z_pos}
 use Rattle.arith.proofs.SignedLaws.{nat_abs_neg, fits_small, read_back_lem}

@@ -11,10 +11,12 @@ use Rattle.fullerecru.proofs.tapes.fullerecru_read_limits.Goals as goal
 
 pub returns-in-Refused : goal.returns-in-Refused
 returns-in-Refused c =
-    limits_refused c.args.bytes.now c.args.limits.now
+    let a = c.args in
+    limits_refused a.bytes.now a.limits.now
     (ap refused c.refusal_number.ensures ∙ ap limits_means (sym c.in-Refused.is) ∙ c.read_limits.ensures)
 
 pub returns-in-Read : goal.returns-in-Read
 returns-in-Read c =
-    limits_given c.args.bytes.now c.args.limits.now (ap limits_means (sym c.in-Read.is) ∙ c.read_limits.ensures)
-    (c.store_limits.ensures ∙ sets_all (limit_numbers c.in-Read.l []) c.args.limits.now (search rules))
+    let a = c.args in
+    limits_given a.bytes.now a.limits.now (ap limits_means (sym c.in-Read.is) ∙ c.read_limits.ensures)
+    (c.store_limits.ensures ∙ sets_all (limit_numbers c.in-Read.l []) a.limits.now (search rules))

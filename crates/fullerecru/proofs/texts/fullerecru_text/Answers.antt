@@ -1,4 +1,5 @@
 -- `fullerecru::texts::fullerecru_text`: the promise of `text_records` by number, line and number of blocks.
+use borrow.Author.Rules.{rules}
 use Rattle.fullerecru.proofs.LentTexts.{text_written_lem, text_refused}
 use Rattle.fullerecru.proofs.texts.fullerecru_text.Goals as goal
 
@@ -8,5 +9,4 @@ returns-in-Written c =
 
 pub returns-in-Refused : goal.returns-in-Refused
 returns-in-Refused c =
-    text_refused _ _ _ c.in-Refused.why c.in-Refused.line (rw c.in-Refused.is at c.text_records.ensures) c.put_number-in-Refused.ensures
-    c.refusal_number.ensures
+    text_refused _ _ _ c.in-Refused.why c.in-Refused.line (rw c.in-Refused.is at c.text_records.ensures) c.put_number-in-Refused.ensures c.refusal_number.ensures

@@ -1,5 +1,4 @@
 -- `line::lists::no_given` meets its contract: its block is none.
-use borrow.Author.Rules.{rules}
 use Rattle.machine.specs.Numbers.{no_ramp}
 use Rattle.line.proofs.lists.no_given.Goals as goal
 

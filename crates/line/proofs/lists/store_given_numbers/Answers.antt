@@ -1,5 +1,4 @@
 -- `line::lists::store_given_numbers` meets its contract: the stores are a run.
-use borrow.Author.Rules.{rules}
 use native.Mathlib.Omega.{arith}
 use lib.ListN.{length-set}
 use Rattle.line.proofs.lists.store_given_numbers.Goals as goal

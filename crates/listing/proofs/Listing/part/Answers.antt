@@ -1,6 +1,5 @@
 -- `listing::Listing::part`: by the answer of planning the tape.
 use Rattle.listing.proofs.Parts.{part_answered}
-use borrow.Author.Rules.{rules}
 use Rattle.listing.proofs.Listing.part.Goals as goal
 
 pub returns-in-Refused : goal.returns-in-Refused

@@ -1,6 +1,5 @@
 -- `machine::answer::check_call` meets its contract: limits that are refused decide, else the block does.
 use mathlib.Core.Path.{◌∙◌}
-use borrow.Author.Rules.{rules}
 use Rattle.display.proofs.Answers.{refused_first, passed_first}
 use Rattle.machine.proofs.answer.check_call.Goals as goal
 

@@ -1,6 +1,5 @@
 -- `machine::answer::check_pair` meets its contract: the first block's call decides, else the second block does.
 use mathlib.Core.Path.{◌∙◌}
-use borrow.Author.Rules.{rules}
 use Rattle.display.proofs.Answers.{refused_first, passed_first}
 use Rattle.machine.proofs.answer.check_pair.Goals as goal
 

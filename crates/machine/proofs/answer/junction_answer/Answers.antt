@@ -1,6 +1,5 @@
 -- `machine::answer::junction_answer` meets its contract: what passed the checks has the junction cap.
 use mathlib.Core.Path.{ap, ◌∙◌}
-use borrow.Author.Rules.{rules}
 use Rattle.display.specs.Display.{given}
 use Rattle.display.proofs.Answers.{told_passed, refused_answer, passed_answer, then_zero}
 use Rattle.machine.proofs.Bounds.{limits_below}

@@ -1,7 +1,6 @@
 -- `machine::answer::machine_answer` meets its contract: limits that are refused decide, else the steps do.
 use mathlib.Core.Path.{sym, ap, ◌∙◌}
 use Prim.Native.Nat.{ℕ}
-use borrow.Author.Rules.{rules}
 use Rattle.display.specs.Display.{or_refused}
 use Rattle.display.proofs.Answers.{refused_first, passed_first, refuses_by}
 use Rattle.machine.specs.Torque.{machine_of}

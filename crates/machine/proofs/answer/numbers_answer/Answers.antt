@@ -1,7 +1,5 @@
 -- `machine::answer::numbers_answer` meets its contract: what passed the checks has the numbers.
 use mathlib.Core.Path.{◌≡◌, sym, ap, subst, ◌∙◌}
-use borrow.Author.Rules.{rules}
-use Rattle.display.specs.Display.{given}
 use Rattle.display.proofs.Answers.{given_is, refused_is, refuses_by, told_passed, told_refused, gives, then_first, then_second, then_zero}
 use Rattle.machine.specs.Answers.{machine_means}
 use Rattle.machine.specs.Checks.{limits_refusal, block_refusal}

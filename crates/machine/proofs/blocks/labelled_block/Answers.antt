@@ -1,6 +1,5 @@
 -- `machine::blocks::labelled_block` meets its contract: the label is the mark.
 use mathlib.Core.Path.{◌∙◌}
-use borrow.Author.Rules.{rules}
 use Rattle.arith.proofs.SignedLaws.{read_back_lem}
 use Rattle.machine.specs.Labels.{plain_block, labelled_block}
 use Rattle.machine.proofs.blocks.labelled_block.Goals as goal

@@ -1,6 +1,5 @@
 -- `machine::check::are_within` meets its contract, from what `is_within` says of each axis.
 use mathlib.Core.Bool.{◌&&◌}
-use borrow.Author.Rules.{rules}
 use Rattle.machine.proofs.check.are_within.Goals as goal
 
 pub returns : goal.returns

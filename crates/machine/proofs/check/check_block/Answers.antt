@@ -1,5 +1,4 @@
 -- `machine::check::check_block` meets its contract: each return stands after the tests that decide it, in the definition's order.
-use borrow.Author.Rules.{rules}
 use borrow.Author.Tests.{eq-eqb, ne_eqb, lt-ltb, le-ltb}
 use Rattle.machine.specs.Checks.{block_refusal}
 use Rattle.machine.proofs.check.check_block.Goals as goal

@@ -1,7 +1,6 @@
 -- `machine::check::check_limits` meets its contract: the tests together are the definition's.
 use mathlib.Core.Path.{◌≡◌, sym, ap, ◌∙◌}
 use mathlib.Core.Bool.{Bool, ◌&&◌, cond}
-use borrow.Author.Rules.{rules}
 use Rattle.machine.specs.Checks.{limits_refusal, limits_within}
 use Rattle.machine.proofs.check.check_limits.Goals as goal
 use Rattle.machine.proofs.check.check_limits.Goals.{After-is_within-3}

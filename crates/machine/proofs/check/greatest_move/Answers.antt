@@ -1,7 +1,6 @@
 -- `machine::check::greatest_move` meets its contract, from the moves.
 use mathlib.Core.Path.{ap, ◌∙◌}
 use Prim.Native.Nat.{max}
-use borrow.Author.Rules.{rules}
 use Rattle.machine.specs.Checks.{greatest_move}
 use Rattle.machine.specs.declared.Axes.{Axes}
 use Rattle.machine.proofs.check.greatest_move.Goals as goal

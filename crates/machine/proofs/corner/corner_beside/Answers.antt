@@ -1,7 +1,6 @@
 -- `machine::corner::corner_beside` meets its contract, from what the smaller cap and `under_corner` ensure.
 use mathlib.Core.Path.{ap, ◌∙◌}
 use Prim.Native.Nat.{ℕ, ◌+◌, ◌*◌}
-use borrow.Author.Rules.{rules}
 use Rattle.machine.specs.Numbers.{turn_from, corner_from, under_cap, corner_beside}
 use Rattle.machine.proofs.corner.corner_beside.Goals as goal
 

@@ -1,7 +1,6 @@
 -- `machine::corner::junction_cap` meets its contract, from the numbers of both blocks.
 use mathlib.Core.List.{[]}
 use mathlib.Core.Path.{◌≡◌, ap, sym, subst, ◌∙◌}
-use borrow.Author.Rules.{rules}
 use Rattle.machine.specs.Numbers.{LimitsBelow, numbers_of, junction_from, Joinable}
 use Rattle.machine.specs.Torque.{machine_of}
 use Rattle.machine.specs.declared.Machine.{Machine}

@@ -1,7 +1,6 @@
 -- `machine::corner::junction_from` meets its contract: a cap under the corner between the two blocks.
 use mathlib.Core.Path.{ap, ◌∙◌}
 use Prim.Native.Nat.{◌*◌}
-use borrow.Author.Rules.{rules}
 use Rattle.machine.specs.Numbers.{turn_from, corner_from, under_cap, junction_from}
 use Rattle.machine.proofs.corner.junction_from.Goals as goal
 

@@ -1,7 +1,6 @@
 -- `machine::corner::under_corner` meets its contract: without a turn it is the cap; else the product with the square of the jump goes to the capped quotient whole.
 use mathlib.Core.Path.{ap, sym, ◌∙◌}
 use Prim.Native.Nat.{ℕ, ◌*◌, ◌^◌, ◌-◌, ◌<◌}
-use borrow.Author.Rules.{rules}
 use native.Mathlib.Nat.{mul-le-mul}
 use native.Mathlib.Omega.{arith}
 use Rattle.arith.specs.Quotient.{capped_quotient}

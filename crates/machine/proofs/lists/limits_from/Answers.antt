@@ -1,6 +1,5 @@
 -- `machine::lists::limits_from` meets its contract: each limit as it stands.
 use mathlib.Core.Path.{refl}
-use borrow.Author.Rules.{rules}
 use Rattle.machine.specs.Lists.{limits_from}
 use Rattle.machine.proofs.lists.limits_from.Goals as goal
 

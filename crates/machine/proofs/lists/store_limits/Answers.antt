@@ -1,5 +1,4 @@
 -- `machine::lists::store_limits` meets its contract: the stores are a run.
-use borrow.Author.Rules.{rules}
 use native.Mathlib.Omega.{arith}
 use lib.ListN.{length-set}
 use Rattle.machine.proofs.lists.store_limits.Goals as goal

@@ -1,7 +1,6 @@
 -- `machine::measure::accel_of` meets its contract: the product fits.
 use mathlib.Core.Path.{ap, ◌∙◌}
 use Prim.Native.Nat.{ℕ, ◌*◌, ◌/◌, ◌≤◌, max}
-use borrow.Author.Rules.{rules}
 use native.Mathlib.Omega.{arith}
 use native.Mathlib.Nat.{mul-le-mul}
 use Rattle.machine.specs.Ranges.{most_accel}

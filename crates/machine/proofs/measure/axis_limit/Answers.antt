@@ -1,6 +1,5 @@
 -- `machine::measure::axis_limit` meets its contract: the test decides whether the cap or the quotient is the answer.
 use Prim.Native.Nat.{◌*◌}
-use borrow.Author.Rules.{rules}
 use native.Mathlib.Omega.{arith}
 use Rattle.arith.proofs.Division.{half_product}
 use Rattle.machine.specs.Numbers.{unit}

@@ -1,7 +1,6 @@
 -- `machine::measure::block_cap` meets its contract: no product passes 64 bits but the one that the quotient takes.
 use mathlib.Core.Path.{sym, ap, ◌∙◌}
 use Prim.Native.Nat.{ℕ, ◌*◌}
-use borrow.Author.Rules.{rules}
 use borrow.Author.Tests.{eq-eqb, ne_eqb}
 use native.Mathlib.Omega.{arith}
 use Rattle.arith.specs.Quotient.{capped_quotient}

@@ -1,6 +1,5 @@
 -- `machine::measure::length_of` meets its contract: the sum of squares fits.
 use Prim.Native.Nat.{◌*◌, ◌^◌, ◌<◌}
-use borrow.Author.Rules.{rules}
 use native.Mathlib.Omega.{arith}
 use Rattle.machine.specs.Numbers.{length_from}
 use Rattle.machine.proofs.Bounds.{squares_below}

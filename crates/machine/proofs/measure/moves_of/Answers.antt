@@ -1,6 +1,5 @@
 -- `machine::measure::moves_of` meets its contract, from the magnitudes.
 use mathlib.Core.Path.{ap, ◌∙◌}
-use borrow.Author.Rules.{rules}
 use lib.IntN.{nat_abs}
 use Rattle.arith.proofs.SignedLaws.{field_back}
 use Rattle.machine.proofs.measure.moves_of.Goals as goal

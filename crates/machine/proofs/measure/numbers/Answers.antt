@@ -1,6 +1,5 @@
 -- `machine::measure::numbers` meets its contract: they are among what is gauged.
 use mathlib.Core.Path.{ap}
-use borrow.Author.Rules.{rules}
 use Rattle.machine.specs.declared.Gauged.{Gauged}
 use Rattle.machine.proofs.measure.numbers.Goals as goal
 

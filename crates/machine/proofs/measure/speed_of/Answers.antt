@@ -1,6 +1,5 @@
 -- `machine::measure::speed_of` meets its contract, from the moves and the speed limit of each axis.
 use mathlib.Core.Path.{◌∙◌}
-use borrow.Author.Rules.{rules}
 use native.Mathlib.Omega.{arith}
 use Rattle.machine.specs.Numbers.{each_axis, speed_of}
 use Rattle.machine.proofs.Bounds.{in_range, moves_below, short}

@@ -1,7 +1,6 @@
 -- `machine::torque::torque_percent` meets its contract: a shift by whole bytes leaves the step's byte as the highest.
 use mathlib.Core.Path.{◌≡◌, sym, ap, ◌∙◌}
 use Prim.Native.Nat.{ℕ, ◌+◌, ◌-◌, ◌*◌, ◌/◌, ◌%◌, ◌^◌, ◌≤◌}
-use borrow.Author.Rules.{rules}
 use native.Mathlib.Omega.{arith}
 use lib.Pow as Pow
 use Rattle.machine.specs.Torque.{torque_percent}

@@ -1,8 +1,6 @@
 -- `machine::torque::with_steps` meets its contract, by the tests of loaded steps.
 use mathlib.Core.Path.{sym, ap, ◌∙◌}
 use Prim.Native.Nat.{ℕ}
-use borrow.Author.Rules.{rules}
-use borrow.Author.Tests.{not-true, not-false}
 use native.Mathlib.Omega.{arith}
 use Rattle.display.specs.Display.{given}
 use Rattle.display.specs.declared.Refusal.TheVariants as why

@@ -1,5 +1,5 @@
 -- `planner::memory::block_in`: the moves from their words, the rest as it stands.
-use Rattle.std.proofs.Common.{◌∙◌, rules}
+use Rattle.std.proofs.Common.{◌∙◌}
 use Rattle.arith.proofs.SignedLaws.{field_back}
 use Rattle.planner.specs.View.{place_from}
 use Rattle.planner.proofs.Blocks.{block_is}

@@ -1,5 +1,4 @@
 -- `planner::memory::brake_at`: the backward step on the numbers of a place.
-use Rattle.std.proofs.Common.{rules}
 use Rattle.planner.specs.View.{place_from}
 use Rattle.planner.proofs.memory.brake_at.Goals as goal
 

@@ -1,5 +1,4 @@
 -- `planner::memory::cut_limits`: each limit, cut.
-use Rattle.std.proofs.Common.{rules}
 use Rattle.line.specs.Ring.{cut_limits}
 use Rattle.planner.proofs.memory.cut_limits.Goals as goal
 

@@ -1,5 +1,5 @@
 -- `planner::memory::cut_numbers_in`: the numbers with their length cut.
-use Rattle.std.proofs.Common.{◌%◌, ◌^◌, rules}
+use Rattle.std.proofs.Common.{◌%◌, ◌^◌}
 use Rattle.planner.proofs.memory.cut_numbers_in.Goals as goal
 
 pub returns : goal.returns

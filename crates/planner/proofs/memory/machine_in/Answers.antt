@@ -1,5 +1,5 @@
 -- `planner::memory::machine_in`: the limits, cut, and the torque as it stands.
-use Rattle.std.proofs.Common.{ap, ◌∙◌, rules}
+use Rattle.std.proofs.Common.{ap, ◌∙◌}
 use Rattle.line.specs.Ring.{cut_limits}
 use Rattle.planner.specs.View.{machine_from}
 use Rattle.planner.proofs.memory.machine_in.Goals as goal

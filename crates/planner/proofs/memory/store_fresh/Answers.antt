@@ -1,5 +1,5 @@
 -- `planner::memory::store_fresh`: the limits and what is stored behind them are a run.
-use Rattle.std.proofs.Common.{ℕ, List, [], ◌∷◌, ap, arith, length-set, rules}
+use Rattle.std.proofs.Common.{ℕ, List, [], ◌∷◌, ap, arith, length-set}
 use lib.Seq.{sets}
 use Rattle.planner.specs.View.{first_index}
 use Rattle.planner.proofs.memory.store_fresh.Goals as goal

@@ -1,5 +1,5 @@
 -- `planner::memory::store_place`: stores one after the other are a run.
-use Rattle.std.proofs.Common.{[], ◌∷◌, ap, ◌∙◌, arith, length-set, rules}
+use Rattle.std.proofs.Common.{[], ◌∷◌, ap, ◌∙◌, arith, length-set}
 use Rattle.arith.proofs.SignedLaws.{field_back}
 use Rattle.fields.specs.Signed.{bits_of}
 use Rattle.line.specs.Ring.{place_of}

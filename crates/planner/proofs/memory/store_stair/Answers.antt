@@ -1,5 +1,5 @@
 -- `planner::memory::store_stair`: two stores one after the other are a run.
-use Rattle.std.proofs.Common.{[], ◌∷◌, arith, length-set, rules}
+use Rattle.std.proofs.Common.{[], ◌∷◌, arith, length-set}
 use Rattle.machine.proofs.Runs.{stores_run}
 use Rattle.planner.proofs.memory.store_stair.Goals as goal
 

@@ -1,5 +1,5 @@
 -- `planner::ring::add_in`: one law for each way out.
-use Rattle.std.proofs.Common.{◌≡◌, sym, ap, ◌∙◌, rules}
+use Rattle.std.proofs.Common.{◌≡◌, sym, ap, ◌∙◌}
 use Rattle.machine.specs.Checks.{block_refusal}
 use Rattle.planner.specs.View.{view_of}
 use Rattle.display.specs.Display.{refusal_number, checked_means}

@@ -1,12 +1,9 @@
 -- `planner::ring::brake_pass`: from junction k on the list holds the backward pass. From the laws of the pass in place, with the numbers read for block k. The measure is k.
-use Rattle.std.proofs.Common.{◌≡◌, ℕ, ◌+◌, ◌-◌, ◌<◌, ◌≤◌, List, length, set, sym, arith, rules}
+use Rattle.std.proofs.Common.{◌≡◌, ◌+◌, ◌≤◌, length}
 use Rattle.profile.specs.Line.{number_at}
-use Rattle.profile.specs.Passes.{Braked, brake_from}
-use Rattle.profile.proofs.InPlace.{store_end, store_brake}
-use Rattle.line.specs.Ring.{slot, spans_in}
-use Rattle.line.proofs.Shows.{spans_in_length}
-use Rattle.planner.specs.View.{base_of, place_from, view_of}
-use Rattle.planner.proofs.Shows.{span_cap, span_reach}
+use Rattle.profile.specs.Passes.{Braked}
+use Rattle.line.specs.Ring.{spans_in}
+use Rattle.planner.specs.View.{view_of}
 use Rattle.planner.proofs.ring.brake_pass.Given as goal
 
 abbrev pub invariant-loop-k : goal.invariant-loop-k

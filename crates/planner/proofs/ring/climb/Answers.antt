@@ -1,5 +1,5 @@
 -- `planner::ring::climb`: one law for each way out.
-use Rattle.std.proofs.Common.{◌≡◌, ℕ, zero, suc, ◌+◌, ◌%◌, ◌^◌, ◌<◌, length, refl, ap, arith, rules}
+use Rattle.std.proofs.Common.{◌≡◌, ℕ, zero, suc, ◌+◌, ◌%◌, ◌^◌, ◌<◌, length, refl, ap, arith}
 use Rattle.profile.specs.declared.Stay.{Stay}
 use Rattle.profile.specs.Stairs.{stair}
 use Rattle.profile.proofs.Stays.{stay_few}

@@ -1,5 +1,5 @@
 -- `planner::ring::exit_in`: the first stair and the end, from `start_is`.
-use Rattle.std.proofs.Common.{ℕ, ◌-◌, ap, ◌∙◌, rules}
+use Rattle.std.proofs.Common.{ℕ, ◌-◌, ap, ◌∙◌}
 use Rattle.profile.specs.Passes.{exit_from}
 use Rattle.planner.specs.View.{view_of}
 use Rattle.planner.proofs.Climbs.{start_is}

@@ -1,5 +1,5 @@
 -- `planner::ring::forward_pass`: up to junction k the list holds the forward pass, behind it the backward pass. From the laws of the passes in place, with the reach read of block k. The measure is what is left.
-use Rattle.std.proofs.Common.{◌≡◌, ℕ, ◌+◌, ◌-◌, ◌<◌, ◌≤◌, List, length, set, arith, length-set, rules}
+use Rattle.std.proofs.Common.{◌≡◌, ℕ, ◌+◌, ◌<◌, ◌≤◌, List, length, set, arith, length-set, rules}
 use Rattle.profile.specs.Line.{number_at}
 use Rattle.profile.specs.Passes.{exit_from, forward}
 use Rattle.profile.proofs.Kept.{forwarded_all}

@@ -1,13 +1,8 @@
 -- `planner::ring::forward_pass`: up to junction k the list holds the forward pass, behind it the backward pass. From the laws of the passes in place, with the reach read of block k. The measure is what is left.
-use Rattle.std.proofs.Common.{◌≡◌, ℕ, ◌+◌, ◌-◌, ◌<◌, ◌≤◌, List, length, set, arith, length-set, rules}
-use Rattle.profile.specs.Line.{number_at}
-use Rattle.profile.specs.Passes.{exit_from, forward}
-use Rattle.profile.proofs.Kept.{forwarded_all}
-use Rattle.profile.proofs.InPlace.{InPlace, in_place_first, in_place_exit}
-use Rattle.line.specs.Ring.{slot, spans_in}
-use Rattle.line.proofs.Shows.{spans_in_length}
-use Rattle.planner.specs.View.{base_of, place_from, view_of}
-use Rattle.planner.proofs.Shows.{span_reach}
+use Rattle.std.proofs.Common.{◌≡◌, ◌+◌, ◌-◌, ◌≤◌, length}
+use Rattle.profile.proofs.InPlace.{InPlace}
+use Rattle.line.specs.Ring.{spans_in}
+use Rattle.planner.specs.View.{view_of}
 use Rattle.planner.proofs.ring.forward_pass.Given as goal
 
 abbrev pub invariant-loop-k : goal.invariant-loop-k

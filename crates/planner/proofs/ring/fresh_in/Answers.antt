@@ -1,5 +1,5 @@
 -- `planner::ring::fresh_in`: one law for each way out.
-use Rattle.std.proofs.Common.{[], sym, ap, ◌∙◌, rules}
+use Rattle.std.proofs.Common.{[], sym, ap, ◌∙◌}
 use lib.Seq.{sets}
 use Rattle.display.specs.Display.{refusal_number}
 use Rattle.display.proofs.Answers.{refusal_above, given_is, refused_is}

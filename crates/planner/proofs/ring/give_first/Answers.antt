@@ -1,5 +1,5 @@
 -- `planner::ring::give_first`: what is given out and what is held after it, from `given_is` and `taken_is`.
-use Rattle.std.proofs.Common.{◌≡◌, ◌-◌, length, ap, ◌∙◌, arith, length-set, rules}
+use Rattle.std.proofs.Common.{◌≡◌, ◌-◌, length, ap, ◌∙◌, arith, length-set}
 use Rattle.profile.specs.Passes.{exit_from}
 use Rattle.machine.specs.declared.Numbers.{Numbers}
 use Rattle.line.specs.Ring.{start_in, lowered}

@@ -1,5 +1,5 @@
 -- `planner::ring::lower`: one law for each way out.
-use Rattle.std.proofs.Common.{refl, arith, length-set, rules}
+use Rattle.std.proofs.Common.{refl, arith, length-set}
 use Rattle.planner.specs.View.{view_of}
 use Rattle.planner.proofs.Climbs.{lowered_gone, lowered_left}
 use Rattle.planner.proofs.ring.lower.Goals as goal

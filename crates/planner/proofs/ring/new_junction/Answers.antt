@@ -1,5 +1,5 @@
 -- `planner::ring::new_junction`: the junction between the last block and the new one, from `junction_is`.
-use Rattle.std.proofs.Common.{mod-lt, lit<, rules, eq-eqb}
+use Rattle.std.proofs.Common.{mod-lt, lit<, eq-eqb}
 use Rattle.planner.specs.View.{place_from, view_of}
 use Rattle.planner.proofs.Blocks.{junction_is, moves_in}
 use Rattle.planner.proofs.ring.new_junction.Goals as goal

@@ -1,5 +1,5 @@
 -- `planner::ring::put_last`: the place, the count and the stairs together, from `put_is`.
-use Rattle.std.proofs.Common.{◌≡◌, length, ◌∙◌, arith, length-set, rules}
+use Rattle.std.proofs.Common.{◌≡◌, length, ◌∙◌, arith, length-set}
 use Rattle.machine.proofs.Bounds.{short}
 use Rattle.machine.proofs.Junctions.{short_moves}
 use Rattle.machine.specs.Lists.{limits_from}

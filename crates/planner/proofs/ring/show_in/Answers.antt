@@ -1,5 +1,5 @@
 -- `planner::ring::show_in`: one law for each way out, from those of the outcomes.
-use Rattle.std.proofs.Common.{ℕ, ◌+◌, sym, ap, ◌∙◌, rules}
+use Rattle.std.proofs.Common.{ℕ, ◌+◌, sym, ap, ◌∙◌}
 use Rattle.profile.specs.Passes.{forward}
 use Rattle.line.specs.Ring.{spans_in}
 use Rattle.planner.specs.View.{view_of}

@@ -1,8 +1,5 @@
 -- `planner::ring::stay`: the walk that is left comes to the end of the whole walk.
-use Rattle.std.proofs.Common.{◌≡◌, suc, ◌-◌, ◌<◌, refl, ◌∙◌, arith, rules}
-use Rattle.profile.specs.Stairs.{stay_from}
-use Rattle.line.specs.Blocks.{most_held}
-use Rattle.line.specs.Ring.{stair_at, stay_in}
+use Rattle.std.proofs.Common.{◌≡◌, suc, ◌-◌, refl, ◌∙◌, arith}
 use Rattle.planner.specs.View.{view_of}
 use Rattle.planner.proofs.Climbs.{stay_begins, stay_ends, stay_goes_on, stay_none}
 use Rattle.planner.proofs.ring.stay.Goals as goal

@@ -1,6 +1,4 @@
 -- `planner::ring::store_end`: the stair of the end, its number and the total, from `ended_is`.
-use Rattle.std.proofs.Common.{rules}
-use Rattle.profile.specs.Stairs.{stair}
 use Rattle.planner.specs.View.{view_of}
 use Rattle.planner.proofs.Climbs.{ended_is}
 use Rattle.planner.proofs.ring.store_end.Goals as goal

@@ -1,5 +1,4 @@
 -- `planner::ring::told_in`: the number kept, but no more than there are places.
-use Rattle.std.proofs.Common.{rules}
 use Rattle.planner.specs.View.{view_of}
 use Rattle.planner.proofs.Outcomes.{told_is}
 use Rattle.planner.proofs.ring.told_in.Goals as goal

@@ -1,7 +1,6 @@
 -- `report::counting::count_rows`: before row k the figures are those of the rows before it. From the laws of rows.
-use Rattle.std.proofs.Common.{◌≡◌, ◌-◌, ◌≤◌, ap, ◌∙◌, arith, rules}
+use Rattle.std.proofs.Common.{◌≡◌, ◌-◌, ◌≤◌}
 use Rattle.report.specs.Rows.{row_figures}
-use Rattle.report.proofs.Rows.{countable_fewer, rows_none}
 use Rattle.report.proofs.counting.count_rows.Given as goal
 
 abbrev pub invariant-loop-k : goal.invariant-loop-k

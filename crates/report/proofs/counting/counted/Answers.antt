@@ -1,5 +1,5 @@
 -- `report::counting::counted`: the test decides.
-use Rattle.std.proofs.Common.{arith, rules, eq-eqb, ne_eqb}
+use Rattle.std.proofs.Common.{arith, eq-eqb, ne_eqb}
 use Rattle.report.proofs.counting.counted.Goals as goal
 
 pub returns-then-held-what : goal.returns-then-held-what

@@ -1,5 +1,5 @@
 -- `report::counting::with_block` meets its contract.
-use Rattle.std.proofs.Common.{max, ap, ◌∙◌, rules}
+use Rattle.std.proofs.Common.{max, ap, ◌∙◌}
 use Rattle.report.specs.Rows.{block_figures}
 use Rattle.report.proofs.counting.with_block.Goals as goal
 

@@ -1,5 +1,4 @@
 -- `report::counting::with_held` meets its contract.
-use Rattle.std.proofs.Common.{rules}
 use Rattle.report.proofs.counting.with_held.Goals as goal
 
 pub returns : goal.returns

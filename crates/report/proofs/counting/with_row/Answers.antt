@@ -1,5 +1,5 @@
 -- `report::counting::with_row`: the row's block, and the junction where it begins. From the laws of rows.
-use Rattle.std.proofs.Common.{◌≡◌, ℕ, ◌+◌, ◌-◌, List, sym, ap, ◌∙◌, subst, arith, rules}
+use Rattle.std.proofs.Common.{◌≡◌, ◌+◌, sym, ap, ◌∙◌, subst, arith}
 use Rattle.profile.specs.Line.{number_at}
 use Rattle.tapeplan.specs.Sheet.{measured_at}
 use Rattle.tapeplan.specs.declared.Measured.{Measured}

@@ -1,5 +1,5 @@
 -- `report::held::held_back`: the answer of planning decides, and then the list's length. From the laws of an accepted tape and of answers.
-use Rattle.std.proofs.Common.{◌≡◌, ℕ, ◌-◌, List, sym, ap, ◌∙◌, arith, rules}
+use Rattle.std.proofs.Common.{◌≡◌, ℕ, ◌-◌, sym, ap, ◌∙◌, arith}
 use Rattle.tape.specs.Tape.{records_in}
 use Rattle.tapeplan.specs.Planned.{planned_means}
 use Rattle.report.specs.Counts.{list_from}

@@ -1,5 +1,5 @@
 -- `report::held::held_by` meets its contract: the tests decide, in their order.
-use Rattle.std.proofs.Common.{◌≡◌, ℕ, min, true, eqb, sym, ap, ◌∙◌, arith, rules, eq-eqb, ne_eqb}
+use Rattle.std.proofs.Common.{◌≡◌, ℕ, min, true, eqb, sym, ap, ◌∙◌, arith, eq-eqb, ne_eqb}
 use Rattle.report.specs.Rows.{held_from}
 use Rattle.report.proofs.held.held_by.Goals as goal
 use Rattle.report.proofs.held.held_by.Goals.{After-smaller-cap, After-smaller-feed}

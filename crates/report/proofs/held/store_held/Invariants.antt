@@ -1,10 +1,8 @@
 -- `report::held::store_held`: what is left to store leads to the end. From the laws of copies and of lists.
-use Rattle.std.proofs.Common.{◌≡◌, ℕ, ◌+◌, ◌-◌, ◌≤◌, List, length, sym, refl, ◌∙◌, arith, rules}
-use Rattle.profile.specs.Line.{number_at}
-use Rattle.report.proofs.Copies.{Copying, copy_all}
+use Rattle.std.proofs.Common.{◌≡◌, ℕ, ◌-◌, ◌≤◌, List, length}
+use Rattle.report.proofs.Copies.{Copying}
 use Rattle.report.specs.Counts.{list_from}
-use Rattle.report.specs.Rows.{held_from, row_held}
-use Rattle.report.proofs.Rows.{held_between, list_length, list_next, over_all}
+use Rattle.report.specs.Rows.{row_held}
 use Rattle.report.proofs.held.store_held.Given as goal
 
 -- what is stored at last

@@ -1,5 +1,5 @@
 -- `report::tapes::figures_of`: the answer of planning decides. From the laws of an accepted tape's figures.
-use Rattle.std.proofs.Common.{sym, refl, ap, ◌∙◌, subst, rules}
+use Rattle.std.proofs.Common.{sym, refl, ap, ◌∙◌, subst}
 use Rattle.tapeplan.specs.Planned.{planned_means, whole_fault}
 use Rattle.report.specs.Figures.{figures_of, tape_figures}
 use Rattle.report.specs.Rows.{Countable, row_figures}

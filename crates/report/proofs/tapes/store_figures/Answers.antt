@@ -1,5 +1,5 @@
 -- `report::tapes::store_figures`: the list is stored whole.
-use Rattle.std.proofs.Common.{arith, length-set, rules}
+use Rattle.std.proofs.Common.{arith, length-set}
 use Rattle.machine.proofs.Runs.{sets_all}
 use Rattle.report.specs.Figures.{figure_numbers}
 use Rattle.report.proofs.tapes.store_figures.Goals as goal

@@ -3,7 +3,6 @@ use mathlib.Core.Path.{◌∙◌}
 use Rattle.machine.specs.Lists.{limits_from}
 use Rattle.tape.specs.Tape.{limits_at}
 use Rattle.tape.proofs.Words.{limits_field}
-use borrow.Author.Rules.{rules}
 use Rattle.tape.proofs.limits.decode_limits.Goals as goal
 
 pub returns : goal.returns

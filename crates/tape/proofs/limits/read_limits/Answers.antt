@@ -8,7 +8,6 @@ use Rattle.tape.specs.Answers.{read_limits, limits_read_refusal}
 use Rattle.display.proofs.Answers.{gives, refuses_by}
 use Rattle.tape.proofs.Checks.{limits_short, limits_long, limits_bits, limits_zeros}
 use Rattle.tape.proofs.Words.{limits_field}
-use borrow.Author.Rules.{rules}
 use Rattle.tape.proofs.limits.read_limits.Goals as goal
 use Rattle.tape.proofs.limits.read_limits.Goals.{After-check_limits, After-read_field}
 

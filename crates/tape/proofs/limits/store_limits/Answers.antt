@@ -4,7 +4,6 @@ use native.Mathlib.Omega.{arith}
 use Rattle.fields.specs.Bytes.{with_bytes}
 use Rattle.fields.proofs.Bytes.{with_next}
 use Rattle.tape.proofs.Words.{words_of_limits}
-use borrow.Author.Rules.{rules}
 use Rattle.tape.proofs.limits.store_limits.Goals as goal
 
 pub returns : goal.returns

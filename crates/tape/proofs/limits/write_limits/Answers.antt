@@ -11,7 +11,6 @@ use Rattle.display.proofs.Answers.{refusal_above}
 use Rattle.tape.proofs.Answers.{enough, too_few, wrote_none, wrote_all}
 use Rattle.tape.proofs.Checks.{limits_fields_lem, limits_room}
 use Rattle.tape.proofs.Fits.{limits_fit}
-use borrow.Author.Rules.{rules}
 use Rattle.tape.proofs.limits.write_limits.Goals as goal
 use Rattle.tape.proofs.limits.write_limits.Goals.{In-Passed}
 

@@ -3,7 +3,6 @@ use mathlib.Core.Path.{ap, ◌∙◌}
 use lib.ListN.{drop, length-drop}
 use lib.Seq.{take_all}
 use native.Mathlib.Nat.{le_of_eq}
-use borrow.Author.Rules.{rules}
 use Rattle.tape.specs.Tape.{block_at, record_start}
 use Rattle.tape.proofs.records.block_at.Goals as goal
 

@@ -5,7 +5,6 @@ use mir.Syntax.{w64}
 use mir.Facts.{to_z-of_z}
 use Rattle.machine.specs.Labels.{labelled_block}
 use Rattle.tape.proofs.Words.{block_of_words}
-use borrow.Author.Rules.{rules}
 use Rattle.tape.proofs.records.decode_record.Goals as goal
 
 pub returns : goal.returns

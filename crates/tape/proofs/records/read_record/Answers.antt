@@ -6,7 +6,6 @@ use Rattle.display.specs.Display.{checked_means}
 use Rattle.tape.specs.Answers.{read_record, record_read_refusal}
 use Rattle.display.proofs.Answers.{gives, refuses_by}
 use Rattle.tape.proofs.Checks.{record_short, record_long}
-use borrow.Author.Rules.{rules}
 use Rattle.tape.proofs.records.read_record.Goals as goal
 use Rattle.tape.proofs.records.read_record.Goals.{After-check_block}
 

@@ -9,7 +9,6 @@ use Rattle.fields.specs.Signed.{bits_of}
 use Rattle.fields.proofs.Bytes.{with_next}
 use Rattle.tape.specs.Tape.{move_bits}
 use Rattle.tape.proofs.Words.{words_of_block}
-use borrow.Author.Rules.{rules}
 use Rattle.tape.proofs.records.store_record.Goals as goal
 
 pub returns : goal.returns

@@ -11,7 +11,6 @@ use Rattle.display.proofs.Answers.{refusal_above}
 use Rattle.tape.proofs.Answers.{enough, too_few, wrote_none, wrote_all}
 use Rattle.tape.proofs.Checks.{record_fields, record_room}
 use Rattle.tape.proofs.Fits.{block_fits}
-use borrow.Author.Rules.{rules}
 use Rattle.tape.proofs.records.write_record.Goals as goal
 use Rattle.tape.proofs.records.write_record.Goals.{In-Passed}
 

@@ -1,5 +1,4 @@
 -- `tape::records::write_record_at` meets its contract, from what `write_record` ensures of the part that it is lent.
-use borrow.Author.Rules.{rules}
 use Rattle.tape.proofs.Written.{written_part}
 use Rattle.tape.proofs.records.write_record_at.Goals as goal
 

@@ -1,15 +1,13 @@
 -- `tape::whole::check_records` meets its contract: before record k those before it have passed. From `passed_next`, `refused_at_lem` and `fault_none`.
 use mathlib.Core.Path.{◌≡◌, sym, ap, ◌∙◌}
-use mathlib.Core.List.{List}
-use Prim.Native.Nat.{ℕ, ◌-◌, ◌<◌, ◌≤◌}
+use Prim.Native.Nat.{◌<◌}
 use native.Mathlib.Omega.{arith}
 use Rattle.machine.specs.Checks.{block_refusal}
 use Rattle.display.specs.Display.{checked_means, given}
 use Rattle.tape.specs.Tape.{record_at, records_in}
 use Rattle.tape.specs.Answers.{check_records}
 use Rattle.tape.proofs.Answers.{faulty, faultless}
-use Rattle.tape.proofs.Faults.{PassedBefore, passed_none, passed_next, refused_at_lem, fault_none}
-use borrow.Author.Rules.{rules}
+use Rattle.tape.proofs.Faults.{passed_none, passed_next, refused_at_lem, fault_none}
 use Rattle.tape.proofs.whole.check_records.Goals as goal
 use Rattle.tape.proofs.whole.check_records.Goals.{After-check_block}
 

@@ -1,12 +1,11 @@
 -- `tape::whole::check_tape` meets its contract: the head's fault comes before the records'. From what `read_head` and `check_records` ensure.
 use mathlib.Core.Path.{◌≡◌, sym, ap, ◌∙◌}
 use Prim.Native.Nat.{ℕ}
-use Rattle.display.specs.Display.{Fault, ◌at◌, given}
+use Rattle.display.specs.Display.{Fault, ◌at◌}
 use Rattle.tape.specs.Answers.{by_fault, limits_means, head_refusal, check_records, check_tape}
 use Rattle.tape.proofs.Answers.{faulty}
 use Rattle.tape.proofs.Checks.{head_given, head_refused}
 use Rattle.tape.proofs.Faults.{fault_records, fault_head}
-use borrow.Author.Rules.{rules}
 use Rattle.tape.proofs.whole.check_tape.Goals as goal
 use Rattle.tape.proofs.whole.check_tape.Goals.{In-Read}
 

@@ -6,7 +6,6 @@ use Rattle.display.specs.Display.{by_number, given, refused}
 use Rattle.tape.specs.Answers.{read_limits, read_head}
 use Rattle.display.proofs.Answers.{refuses_by}
 use Rattle.tape.proofs.Checks.{head_many, head_short, head_ragged, head_limits, limits_long}
-use borrow.Author.Rules.{rules}
 use Rattle.tape.proofs.whole.read_head.Goals as goal
 
 pub returns-then-s-gt-MOST_BYTES : goal.returns-then-s-gt-MOST_BYTES

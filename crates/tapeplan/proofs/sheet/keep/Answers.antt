@@ -2,7 +2,6 @@
 use native.Mathlib.Omega.{arith}
 use lib.ListN.{length-set}
 use Rattle.tapeplan.proofs.Sheets.{row_kept, row_left}
-use borrow.Author.Rules.{rules}
 use Rattle.tapeplan.proofs.sheet.keep.Goals as goal
 
 pub returns-then-sheet-k : goal.returns-then-sheet-k

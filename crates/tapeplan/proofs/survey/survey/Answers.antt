@@ -1,13 +1,11 @@
 -- `tapeplan::survey::survey` meets its contract: before record k those before it are surveyed. From `survey_next`, `survey_all` and the tape's faults.
 use mathlib.Core.Path.{◌≡◌, refl, sym, ap, subst, ◌∙◌}
-use mathlib.Core.List.{List}
-use Prim.Native.Nat.{ℕ, ◌-◌, ◌*◌, ◌^◌, ◌≤◌, ◌<◌}
+use Prim.Native.Nat.{◌*◌, ◌^◌, ◌≤◌, ◌<◌}
 use native.Mathlib.Nat.{not-suc-le-zero}
 use native.Mathlib.Omega.{arith}
 use lib.ListN.{length, length-set}
 use Rattle.machine.specs.Checks.{block_refusal}
 use Rattle.machine.specs.Numbers.{numbers_of}
-use Rattle.machine.specs.declared.Block.{Block}
 use Rattle.machine.specs.declared.Gauged.{Gauged}
 use Rattle.machine.specs.declared.Numbers.{Numbers}
 use Rattle.machine.proofs.CapLaws.{block_cap_below}
@@ -17,7 +15,7 @@ use Rattle.display.specs.Display.{Fault, checked_means, given}
 use Rattle.display.proofs.Answers.{refusal_above}
 use Rattle.tape.proofs.Answers.{faulty, faultless}
 use Rattle.tape.proofs.Faults.{passed_none, refused_at_lem, fault_none}
-use Rattle.tapeplan.proofs.Surveys.{Surveying, known_joinable, survey_next, survey_all}
+use Rattle.tapeplan.proofs.Surveys.{known_joinable, survey_next, survey_all}
 use Rattle.tapeplan.specs.Sheet.{Measures}
 use borrow.Author.Rules.{rules}
 use Rattle.tapeplan.proofs.survey.survey.Goals as goal

@@ -1,5 +1,4 @@
 -- `tapeplan::whole::check_whole`: head and steps decide, or the records do.
-use mathlib.Core.List.{List}
 use mathlib.Core.Path.{◌≡◌, sym, ap, ◌∙◌}
 use Prim.Native.Nat.{ℕ}
 use Rattle.display.specs.Display.{Fault, ◌at◌}
@@ -9,7 +8,6 @@ use Rattle.machine.specs.Torque.{steps_refusal}
 use Rattle.tape.specs.Answers.{check_records, fault_from, head_refusal, tape_means}
 use Rattle.tape.specs.Tape.{records_in, tape_blocks}
 use Rattle.tapeplan.proofs.Answered.{start_given, start_none, whole_faultless, whole_passed, whole_records_lem, whole_start}
-use borrow.Author.Rules.{rules}
 use Rattle.tapeplan.proofs.whole.check_whole.Goals as goal
 use Rattle.tapeplan.proofs.whole.check_whole.Goals.{After-check_records}
 

@@ -4,7 +4,6 @@ use Prim.Native.Nat.{◌<◌}
 use Rattle.tape.specs.Answers.{head_refusal, limits_means}
 use Rattle.tape.proofs.Checks.{head_given, head_refused}
 use Rattle.tapeplan.proofs.Answered.{start_loaded, start_refused}
-use borrow.Author.Rules.{rules}
 use Rattle.tapeplan.proofs.whole.machine_of.Goals as goal
 
 pub returns-in-Refused : goal.returns-in-Refused

@@ -5,7 +5,6 @@ use native.Mathlib.Omega.{arith}
 use Rattle.tape.specs.Tape.{records_in}
 use Rattle.tape.specs.Answers.{most_blocks}
 use Rattle.tapeplan.proofs.Wholes.{lent_length, whole_planned}
-use borrow.Author.Rules.{rules}
 use Rattle.tapeplan.proofs.whole.plan_on_work_sheet.Goals as goal
 use Rattle.tapeplan.proofs.whole.plan_on_work_sheet.Goals.{After-fewer-junctions}
 

@@ -1,8 +1,6 @@
 -- `tapeplan::whole::plan_surveyed` meets its contract: head and steps decide, or the survey's lists are the tape's line, which the passes plan.
 use mathlib.Core.Path.{◌≡◌, sym, ap, subst, ◌∙◌}
-use mathlib.Core.List.{List}
 use Prim.Native.Nat.{ℕ, ◌+◌, ◌≤◌, zero-le}
-use borrow.Author.Rules.{rules}
 use native.Mathlib.Omega.{arith}
 use lib.ListN.{length, take}
 use lib.Seq.{length-take-le}

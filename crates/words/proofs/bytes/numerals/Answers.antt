@@ -1,11 +1,6 @@
 -- `words::bytes::numerals` meets its contract: what is counted, and what is still to be counted, are the whole. From `counts_yes`, `counts_no` and `counts_end`.
-use mathlib.Core.Path.{◌≡◌, sym, ◌∙◌}
-use Prim.Native.Nat.{◌+◌, ◌-◌, ◌≤◌}
+use mathlib.Core.Path.{sym, ◌∙◌}
 use native.Mathlib.Omega.{arith}
-use lib.ListN.{length, drop}
-use borrow.Author.Rules.{rules}
-use borrow.Author.Tests.{not-true, not-false}
-use Rattle.words.specs.Leading.{leading}
 use Rattle.words.specs.Pieces.{numeral}
 use Rattle.words.proofs.LeadingLaws.{counts_yes, counts_no, counts_end}
 use Rattle.words.proofs.bytes.numerals.Goals as goal

@@ -1,13 +1,9 @@
 -- `words::bytes::numerals` meets its contract: what is counted, and what is still to be counted, are the whole. From `counts_yes`, `counts_no` and `counts_end`.
-use mathlib.Core.Path.{◌≡◌, sym, ◌∙◌}
+use mathlib.Core.Path.{◌≡◌}
 use Prim.Native.Nat.{◌+◌, ◌-◌, ◌≤◌}
-use native.Mathlib.Omega.{arith}
 use lib.ListN.{length, drop}
-use borrow.Author.Rules.{rules}
-use borrow.Author.Tests.{not-true, not-false}
 use Rattle.words.specs.Leading.{leading}
 use Rattle.words.specs.Pieces.{numeral}
-use Rattle.words.proofs.LeadingLaws.{counts_yes, counts_no, counts_end}
 use Rattle.words.proofs.bytes.numerals.Given as goal
 
 abbrev pub invariant-loop-i : goal.invariant-loop-i

@@ -6,7 +6,6 @@ use native.Mathlib.Nat.{le_of_eq}
 use native.Mathlib.Omega.{arith}
 use lib.ListN.{length, take, drop, length-drop}
 use lib.Seq.{take_all, length-take-le}
-use borrow.Author.Rules.{rules}
 use Rattle.text.specs.Text.{value}
 use Rattle.words.specs.Leading.{leading, behind}
 use Rattle.words.specs.Number.{most_digits, with_decimals}

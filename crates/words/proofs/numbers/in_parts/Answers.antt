@@ -2,7 +2,6 @@
 use mathlib.Core.Path.{◌≡◌, refl, sym, ◌∙◌}
 use Prim.Native.Nat.{ℕ, ◌-◌, ◌*◌, ◌^◌, ◌≤◌}
 use native.Mathlib.Omega.{arith}
-use borrow.Author.Rules.{rules}
 use Rattle.words.specs.Number.{most_decimals}
 use Rattle.words.proofs.NumberLaws.{parts_next, parts_within, parts_most}
 use Rattle.words.proofs.numbers.in_parts.Goals as goal

@@ -1,10 +1,7 @@
 -- `words::numbers::in_parts` meets its contract: the digits that are still missing lead to the same number.
-use mathlib.Core.Path.{◌≡◌, refl, sym, ◌∙◌}
-use Prim.Native.Nat.{ℕ, ◌-◌, ◌*◌, ◌^◌, ◌≤◌}
-use native.Mathlib.Omega.{arith}
-use borrow.Author.Rules.{rules}
+use mathlib.Core.Path.{◌≡◌}
+use Prim.Native.Nat.{◌-◌, ◌*◌, ◌^◌, ◌≤◌}
 use Rattle.words.specs.Number.{most_decimals}
-use Rattle.words.proofs.NumberLaws.{parts_next, parts_within, parts_most}
 use Rattle.words.proofs.numbers.in_parts.Given as goal
 
 abbrev pub invariant-loop-k : goal.invariant-loop-k

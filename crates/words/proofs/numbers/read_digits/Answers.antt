@@ -2,15 +2,14 @@
 -- write.
 use mathlib.Core.Path.{◌≡◌, refl, sym, ap, ◌∙◌}
 use mathlib.Core.List.{List}
-use Prim.Native.Nat.{ℕ, ◌+◌, ◌-◌, ◌^◌, ◌≤◌, ◌<◌}
+use Prim.Native.Nat.{ℕ, ◌≤◌, ◌<◌}
 use native.Mathlib.Omega.{arith}
 use lib.Dec.{lit<, leb}
-use lib.ListN.{length, drop, get_or}
-use borrow.Author.Rules.{rules}
-use borrow.Author.Tests.{leb-true, not-true, not-false}
+use lib.ListN.{length, get_or}
+use borrow.Author.Tests.{leb-true}
 use mathlib.Core.Bool.{true}
 use Rattle.arith.proofs.Tests.{both}
-use Rattle.text.specs.Text.{value, value_behind}
+use Rattle.text.specs.Text.{value}
 use Rattle.words.specs.Digits.{DigitsIn, digits_of}
 use Rattle.words.specs.Leading.{leading}
 use Rattle.words.specs.Pieces.{digit}

@@ -5,7 +5,6 @@ use native.Mathlib.Nat.{le_of_eq}
 use native.Mathlib.Omega.{arith}
 use lib.ListN.{drop, length-drop}
 use lib.Seq.{take_all}
-use borrow.Author.Rules.{rules}
 use Rattle.words.specs.Number.{after_sign}
 use Rattle.words.proofs.NumberLaws.{number_none, number_minus, number_plus, number_unsigned}
 use Rattle.words.proofs.numbers.read_number.Goals as goal

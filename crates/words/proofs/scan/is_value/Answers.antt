@@ -3,7 +3,6 @@ use mathlib.Core.Path.{sym, ap, ◌∙◌}
 use Prim.Native.Nat.{ℕ}
 use lib.Dec.{eqb}
 use lib.IntN.{nat_abs}
-use borrow.Author.Rules.{rules}
 use Rattle.arith.proofs.SignedLaws.{read_back_lem, sign_back, negative, not_negative}
 use Rattle.words.specs.Words.{is_value}
 use Rattle.words.proofs.scan.is_value.Goals as goal

@@ -7,7 +7,6 @@ use lib.IntN.{ℤ}
 use lib.ListN.{length, set}
 use Rattle.arith.proofs.SignedLaws.{read_back_lem}
 use Rattle.display.specs.declared.Checked.TheVariants.{Passed}
-use borrow.Author.Rules.{rules}
 use Rattle.words.specs.Steps.{Puts}
 use Rattle.words.specs.Words.{Words, slots, with_slot, words_in}
 use Rattle.words.proofs.SlotLaws.{put_unlisted, in_line_lem, put_taken, put_free}

@@ -1,7 +1,6 @@
 -- `words::scan::slot_of` meets its contract: the tests are the definition's.
 use mathlib.Core.Path.{sym, ap, ◌∙◌}
 use Prim.Native.Nat.{ℕ}
-use borrow.Author.Rules.{rules}
 use borrow.Author.Tests.{ne_eqb}
 use lib.Dec.{lit<}
 use Rattle.arith.proofs.SignedLaws.{read_back_lem}

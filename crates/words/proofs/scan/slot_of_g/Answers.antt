@@ -6,7 +6,6 @@ use Prim.Native.Nat.{ℕ}
 use lib.IntN.{ℤ}
 use mir.Syntax.{w64}
 use mir.Val.{SFits}
-use borrow.Author.Rules.{rules}
 use Rattle.arith.proofs.SignedLaws.{read_back, read_back_lem}
 use Rattle.words.specs.Words.{is_number, is_value, motion_slot, unit_slot, way_slot}
 use Rattle.words.specs.declared.Slot.{Slot}

@@ -8,8 +8,6 @@ use native.Mathlib.Omega.{arith}
 use lib.Dec.{lit≤}
 use lib.ListN.{length, take, drop, get_or, length-drop}
 use lib.Seq.{take_all}
-use borrow.Author.Rules.{rules}
-use borrow.Author.Tests.{not-true, not-false}
 use Rattle.display.specs.Display.{Outcome}
 use Rattle.display.specs.declared.Checked.{Checked}
 use Rattle.words.specs.Leading.{leading}

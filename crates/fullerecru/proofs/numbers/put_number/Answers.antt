@@ -1,0 +1,8 @@
+-- `fullerecru::numbers::put_number`: the list is stored whole.
+use mathlib.Core.List.{◌∷◌, []}
+use borrow.Author.Rules.{rules}
+use Rattle.machine.proofs.Runs.{sets_all}
+use Rattle.fullerecru.proofs.numbers.put_number.Goals as goal
+
+pub returns : goal.returns
+returns c = sets_all (c.args.n ∷ []) c.args.list.now c.requires

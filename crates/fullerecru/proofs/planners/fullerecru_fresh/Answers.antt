@@ -1,0 +1,7 @@
+-- `fullerecru::planners::fullerecru_fresh`: the promise of `fresh` at the limits that were read.
+use borrow.Author.Rules.{rules}
+use Rattle.fullerecru.proofs.Displayed.{fresh_by}
+use Rattle.fullerecru.proofs.planners.fullerecru_fresh.Goals as goal
+
+pub returns : goal.returns
+returns c = fresh_by c.fresh.ensures c.checked_number.ensures c.limits_from.ensures
