@@ -44,6 +44,12 @@ const TOO_LONG: Trouble = ("open", "File name too long");
 const CLOSED: Trouble = ("open", "Permission denied");
 const DIRECTORY: Trouble = ("read", "Is a directory");
 const BROKEN: Trouble = ("read", "Input/output error");
+/// A name that is no UTF-8 text: there may be such a file, but the programs have
+/// no path for it.
+const NO_TEXT: Trouble = (
+    "open",
+    "Invalid or incomplete multibyte or wide character",
+);
 
 /// A folder with files in it, which is there as long as this value.
 struct Folder {
@@ -79,6 +85,9 @@ impl Folder {
     }
 
     fn content(&self, name: &[u8]) -> Result<&[u8], Trouble> {
+        if str::from_utf8(name).is_err() {
+            return Err(NO_TEXT);
+        }
         match self.files.get(name) {
             Some(content) => content.as_deref().map_err(|trouble| *trouble),
             None => Err(ABSENT),
@@ -512,7 +521,8 @@ refused 2 at 1 still
 }
 
 /// A name has any bytes but 0 and, in the folder, no slash: one byte alone, and
-/// between two letters.
+/// between two letters. Where they are no text it is told that it cannot be opened,
+/// though there is such a file.
 #[test]
 fn names_have_any_byte() {
     let mut folder = Folder::new("bytes");
