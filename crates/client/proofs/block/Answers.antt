@@ -1,5 +1,4 @@
 -- `client::block` meets its contract: its moves are those that are handed in.
-use borrow.Author.Rules.{rules}
 use native.Mathlib.Omega.{arith}
 use lib.IntN.{pos}
 use Rattle.arith.proofs.SignedLaws.{fits_small}

@@ -1,6 +1,5 @@
 -- `client::refused_still` meets its contract: the line refuses the block by 2 and stays as it was.
 use mathlib.Core.Path.{◌≡◌, sym, ap, ◌∙◌}
-use borrow.Author.Rules.{rules}
 use borrow.Author.Tests.{eq-eqb}
 use Rattle.line.specs.Answers.{add_means}
 use Rattle.line.specs.Blocks.{add, line_answer, line_after}
@@ -16,11 +15,11 @@ said c =
     (rw c.block-2.ensures at (c.add-none.ensures.line (line_of_one ahead) held)).0
 
 pub expect-requires : goal.expect-requires
-expect-requires c = absurd (still_refused (sym (ap add_means c.in-Added.is) ∙ said c.before.before))
+expect-requires c = absurd (still_refused (sym (ap add_means c.in-Added.is) ∙ said c.before))
 
 pub expect-requires-in-Refused : goal.expect-requires-in-Refused
 expect-requires-in-Refused c =
-    eq-eqb _ _ (c.refusal_number.ensures ∙ still_number _ (sym (ap add_means c.in-Refused.is) ∙ said c.before.before.before.before))
+    eq-eqb _ _ (c.refusal_number.ensures ∙ still_number _ (sym (ap add_means c.in-Refused.is) ∙ said c.before.before))
 
 pub expect-requires-2 : goal.expect-requires-2
 expect-requires-2 c =

@@ -1,6 +1,5 @@
 -- `client::right_angle` meets its contract: the two takes answer as the line of the pair says.
 use mathlib.Core.Path.{◌≡◌, sym, ap, ◌∙◌}
-use borrow.Author.Rules.{rules}
 use Rattle.line.specs.Answers.{take_means}
 use Rattle.line.specs.Blocks.{take, line_answer, line_after}
 use Rattle.client.specs.Work.{line_of_two}
@@ -19,14 +18,14 @@ said c =
 
 pub expect_given-requires : goal.expect_given-requires
 expect_given-requires c =
-    gives_first c.in-Given.g (sym (ap take_means c.in-Given.is) ∙ (said c.before.before.before).0)
+    gives_first c.in-Given.g (sym (ap take_means c.in-Given.is) ∙ (said c.before).0)
 
 pub expect-requires : goal.expect-requires
-expect-requires c = absurd (first_given _ (sym (ap take_means c.in-Refused.is) ∙ (said c.before.before).0))
+expect-requires c = absurd (first_given _ (sym (ap take_means c.in-Refused.is) ∙ (said c.before).0))
 
 pub expect_given-requires-in-Given-after : goal.expect_given-requires-in-Given-after
 expect_given-requires-in-Given-after c =
-    gives_second c.in-Given-after.g (sym (ap take_means c.in-Given-after.is) ∙ (said c.before.before.before.before).1)
+    gives_second c.in-Given-after.g (sym (ap take_means c.in-Given-after.is) ∙ (said c.before.before).1)
 
 pub expect-requires-in-Refused-after : goal.expect-requires-in-Refused-after
-expect-requires-in-Refused-after c = absurd (second_given _ (sym (ap take_means c.in-Refused-after.is) ∙ (said c.before.before.before).1))
+expect-requires-in-Refused-after c = absurd (second_given _ (sym (ap take_means c.in-Refused-after.is) ∙ (said c.before.before).1))

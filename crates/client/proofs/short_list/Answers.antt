@@ -2,7 +2,6 @@
 use mathlib.Core.List.{List, ◌∷◌, []}
 use mathlib.Core.Path.{◌≡◌, sym, ap, ◌∙◌}
 use Prim.Native.Nat.{ℕ}
-use borrow.Author.Rules.{rules}
 use borrow.Author.Tests.{eq-eqb}
 use lib.ListN.{get_or}
 use Rattle.line.specs.Answers.{refused, show_means}
@@ -19,11 +18,11 @@ module _ (c : After-shown) where
       c.shown.ensures
 
 pub expect-requires : goal.expect-requires
-expect-requires c = absurd (shown_refused (short c.before.before.before).0 (sym (ap show_means c.in-Shown.is)))
+expect-requires c = absurd (shown_refused (short c.before.before).0 (sym (ap show_means c.in-Shown.is)))
 
 pub expect-requires-in-Refused : goal.expect-requires-in-Refused
 expect-requires-in-Refused c =
-    eq-eqb _ _ (c.refusal_number.ensures ∙ short_number _ (short c.before.before.before.before.before).0 (sym (ap show_means c.in-Refused.is)))
+    eq-eqb _ _ (c.refusal_number.ensures ∙ short_number _ (short c.before.before.before).0 (sym (ap show_means c.in-Refused.is)))
 
 pub expect-requires-2 : goal.expect-requires-2
 expect-requires-2 c = eq-eqb _ _ (ap (λ (l : List ℕ). get_or l 0 0) (short c.before.before).1)

@@ -1,5 +1,4 @@
 -- `host::event`: what order and call promise, said of the event and of the answer as values.
-use borrow.Author.Rules.{rules}
 use mathlib.Core.Path.{refl}
 use Rattle.line.specs.Answers.{add_means}
 use Rattle.host.specs.Events.{EventDone}

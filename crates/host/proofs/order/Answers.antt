@@ -1,5 +1,4 @@
 -- `host::order`: the first field that is refused, else the add of the block.
-use borrow.Author.Rules.{rules}
 use mathlib.Core.Path.{sym, ap, subst, ◌∙◌}
 use Rattle.display.proofs.Answers.{told_refused, told_passed}
 use Rattle.host.specs.Fields.{Within, field_fault}

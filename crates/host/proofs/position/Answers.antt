@@ -1,5 +1,4 @@
 -- `host::position`: coordinate by coordinate.
-use borrow.Author.Rules.{rules}
 use Rattle.host.proofs.position.Goals as goal
 
 pub returns : goal.returns

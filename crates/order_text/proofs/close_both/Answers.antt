@@ -1,6 +1,5 @@
 -- `order_text::close_both`: the point's line has room behind the planner's.
 use native.Mathlib.Omega.{arith}
-use borrow.Author.Rules.{rules}
 use Rattle.order_text.proofs.close_both.Goals as goal
 
 pub write_point-requires : goal.write_point-requires

@@ -1,17 +1,14 @@
 -- `order_text::run`: before event k those before it have been run, each line behind the one before it. From `ran_none` and `ran_more`.
 use mathlib.Core.List.{List}
-use mathlib.Core.Path.{◌≡◌, subst}
-use Prim.Native.Nat.{ℕ, ◌+◌, ◌-◌, ◌*◌, ◌≤◌}
-use native.Mathlib.Omega.{arith}
+use mathlib.Core.Path.{◌≡◌}
+use Prim.Native.Nat.{ℕ, ◌-◌, ◌*◌, ◌≤◌}
 use lib.ListN.{length}
 use Rattle.fields.specs.Records.{each_record}
 use Rattle.host.specs.Events.{Held}
 use Rattle.replay_text.specs.Chunks.{line_bytes, text_bytes, chunk_size}
 use Rattle.replay_text.specs.Runs.{RanText}
-use Rattle.replay_text.proofs.Runs.{ran_none, ran_more}
 use Rattle.order_text.specs.Orders.{event_bytes, event_of}
 use Rattle.order_text.specs.Texts.{recorded_events}
-use borrow.Author.Rules.{rules}
 use Rattle.order_text.proofs.run.Given as goal
 
 abbrev pub held : (memory host : List ℕ) → Held

@@ -2,7 +2,6 @@
 use mathlib.Core.Path.{sym, ap, ◌∙◌}
 use Rattle.tape.specs.Answers.{limits_means}
 use Rattle.replay.proofs.Heads.{begun_refused, begun_fresh}
-use borrow.Author.Rules.{rules}
 use Rattle.replay.proofs.begin.Goals as goal
 
 pub returns-in-Refused : goal.returns-in-Refused

@@ -7,7 +7,6 @@ use Rattle.tape.specs.Answers.{read_limits}
 use Rattle.display.proofs.Answers.{refuses_by}
 use Rattle.tape.proofs.Checks.{limits_long}
 use Rattle.replay.proofs.Heads.{head_short, head_ragged, head_limits}
-use borrow.Author.Rules.{rules}
 use Rattle.replay.proofs.read_head.Goals as goal
 
 pub returns-then-trace-lt-LIMITS_BYTES : goal.returns-then-trace-lt-LIMITS_BYTES

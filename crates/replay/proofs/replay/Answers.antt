@@ -11,7 +11,6 @@ use Rattle.tape.specs.Tape.{limits_bytes}
 use Rattle.replay.specs.Replays.{begin_refusal}
 use Rattle.replay.proofs.Heads.{begun_long, begin_refused, answers_refused, plan_refused, trace_run}
 use Rattle.replay.proofs.Runs.{demanded}
-use borrow.Author.Rules.{rules}
 use Rattle.replay.proofs.replay.Goals as goal
 use Rattle.replay.proofs.replay.Goals.{In-Passed}
 

@@ -1,9 +1,9 @@
 -- `replay::run` meets its contract: before call k those before it have been run, each into its row. From `ran_none` and `ran_stored`.
 use mathlib.Core.Path.{◌≡◌, subst}
 use mathlib.Core.List.{List}
-use Prim.Native.Nat.{ℕ, ◌+◌, ◌-◌, ◌*◌, ◌/◌, ◌≤◌}
+use Prim.Native.Nat.{ℕ, ◌+◌, ◌-◌, ◌*◌, ◌/◌}
 use native.Mathlib.Omega.{arith}
-use lib.ListN.{length, take}
+use lib.ListN.{length}
 use lib.Seq.{take_all}
 use Rattle.planner.specs.Calls.{Called}
 use Rattle.replay.specs.Trace.{call_bytes, call_of, calls_from}

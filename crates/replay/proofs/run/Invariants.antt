@@ -1,16 +1,11 @@
 -- `replay::run` meets its contract: before call k those before it have been run, each into its row. From `ran_none` and `ran_stored`.
-use mathlib.Core.Path.{◌≡◌, subst}
-use mathlib.Core.List.{List}
-use Prim.Native.Nat.{ℕ, ◌+◌, ◌-◌, ◌*◌, ◌/◌, ◌≤◌}
-use native.Mathlib.Omega.{arith}
+use mathlib.Core.Path.{◌≡◌}
+use Prim.Native.Nat.{◌-◌, ◌*◌, ◌≤◌}
 use lib.ListN.{length, take}
-use lib.Seq.{take_all}
 use Rattle.planner.specs.Calls.{Called}
-use Rattle.replay.specs.Trace.{call_bytes, call_of, calls_from}
+use Rattle.replay.specs.Trace.{calls_from}
 use Rattle.replay.specs.Rows.{row_of, row_size}
 use Rattle.replay.specs.Runs.{Ran}
-use Rattle.replay.proofs.Runs.{ran_none, ran_stored}
-use borrow.Author.Rules.{rules}
 use Rattle.replay.proofs.run.Given as goal
 
 abbrev pub invariant-loop-k : goal.invariant-loop-k

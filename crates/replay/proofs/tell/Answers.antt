@@ -1,7 +1,6 @@
 -- `replay::tell` meets its contract: what is told fits the list, from `told_plan`.
 use mathlib.Core.Path.{sym}
 use Rattle.replay.proofs.Runs.{lent_long, told_plan}
-use borrow.Author.Rules.{rules}
 use Rattle.replay.proofs.tell.Goals as goal
 
 pub slice_bounds-shown-end-2 : goal.slice_bounds-shown-end-2

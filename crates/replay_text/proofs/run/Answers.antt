@@ -1,10 +1,9 @@
 -- `replay_text::run`: before call k those before it have been run, each line behind the one before it. From `ran_none` and `ran_more`.
 use mathlib.Core.Path.{◌≡◌, subst}
-use Prim.Native.Nat.{ℕ, ◌+◌, ◌-◌, ◌*◌, ◌≤◌}
+use Prim.Native.Nat.{ℕ, ◌+◌, ◌*◌, ◌≤◌}
 use native.Mathlib.Omega.{arith}
-use lib.ListN.{length}
 use Rattle.replay.specs.Trace.{calls_from}
-use Rattle.replay_text.specs.Chunks.{line_bytes, text_bytes, chunk_size}
+use Rattle.replay_text.specs.Chunks.{line_bytes, chunk_size}
 use Rattle.replay_text.specs.Runs.{RanText}
 use Rattle.replay_text.specs.Texts.{recorded_calls}
 use Rattle.replay_text.proofs.Runs.{ran_none, ran_more}

@@ -2,7 +2,6 @@
 use mathlib.Core.Path.{subst}
 use Rattle.report_text.specs.Text.{PutLine, all_word, figures_line}
 use Rattle.report.specs.declared.Figures.{Figures}
-use borrow.Author.Rules.{rules}
 use Rattle.report_text.proofs.put_all.Goals as goal
 
 pub returns : goal.returns

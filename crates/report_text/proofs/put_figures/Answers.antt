@@ -4,7 +4,6 @@ use mathlib.Core.List.{List}
 use Prim.Native.Nat.{ℕ}
 use Rattle.text.specs.Text.{named_row}
 use Rattle.report_text.specs.Text.{PutLine}
-use borrow.Author.Rules.{rules}
 use Rattle.report_text.proofs.put_figures.Goals as goal
 
 pub returns : goal.returns

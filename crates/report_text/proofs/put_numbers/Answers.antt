@@ -1,7 +1,6 @@
 -- `report_text::put_numbers`: from the length of a row of 64-bit numbers with a name.
 use native.Mathlib.Omega.{arith}
 use Rattle.text.proofs.Lines.{named_row_most}
-use borrow.Author.Rules.{rules}
 use Rattle.report_text.proofs.put_numbers.Goals as goal
 
 pub returns : goal.returns

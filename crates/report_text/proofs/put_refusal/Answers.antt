@@ -5,7 +5,6 @@ use Prim.Native.Nat.{ℕ}
 use Rattle.text.specs.Text.{refused_named}
 use Rattle.text.proofs.Lines.{refused_named_most}
 use Rattle.report_text.specs.Text.{PutLine}
-use borrow.Author.Rules.{rules}
 use Rattle.report_text.proofs.put_refusal.Goals as goal
 
 pub returns : goal.returns

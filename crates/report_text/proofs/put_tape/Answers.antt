@@ -4,7 +4,6 @@ use Rattle.display.specs.Display.{Fault, Outcome}
 use Rattle.report.specs.Figures.{figured_means}
 use Rattle.report_text.specs.Text.{PutLine, tape_line}
 use Rattle.report.specs.declared.Figures.{Figures}
-use borrow.Author.Rules.{rules}
 use Rattle.report_text.proofs.put_tape.Goals as goal
 
 pub returns-in-Figures : goal.returns-in-Figures

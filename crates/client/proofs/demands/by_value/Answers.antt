@@ -1,5 +1,4 @@
 -- `client::demands::by_value` meets its contract, in the same way.
-use borrow.Author.Rules.{rules}
 use Rattle.line.specs.Chains.{none, next}
 use Rattle.planner.proofs.Demand.{demand3}
 use Rattle.client.proofs.demands.by_value.Goals as goal

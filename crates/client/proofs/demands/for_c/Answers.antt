@@ -1,5 +1,4 @@
 -- `client::demands::for_c` meets its contract: the promises of the functions for C, and their theorem.
-use borrow.Author.Rules.{rules}
 use Rattle.arith.proofs.SignedLaws.{read_back_lem}
 use Rattle.fullerecru.specs.Planners.{none, add_next, take_next}
 use Rattle.fullerecru.proofs.Demand.{exported_demand3}

@@ -1,5 +1,4 @@
 -- `client::demands::in_memory` meets its contract: the promises of its calls, one after the other, and the planner's theorem.
-use borrow.Author.Rules.{rules}
 use Rattle.line.specs.Chains.{none, next}
 use Rattle.planner.proofs.Demand.{demand3}
 use Rattle.client.proofs.demands.in_memory.Goals as goal

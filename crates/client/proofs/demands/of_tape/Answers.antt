@@ -1,5 +1,4 @@
 -- `client::demands::of_tape` meets its contract: the promise of `plan_tape`, and the tape's theorem.
-use borrow.Author.Rules.{rules}
 use Rattle.tapeplan.proofs.Demand.{tape_demand3}
 use Rattle.client.proofs.demands.of_tape.Goals as goal
 

@@ -1,5 +1,4 @@
 -- `client::hosted::one_rapid` meets its contract: the promises of fresh, order, told and position at the worked order.
-use borrow.Author.Rules.{rules}
 use borrow.Author.Tests.{eq-eqb}
 use Rattle.client.proofs.Rapid.{one_told, point_given}
 use Rattle.client.proofs.hosted.one_rapid.Goals as goal

@@ -1,7 +1,6 @@
 -- `fullerecru::numbers::planned_number`: each case of the answer has its number and its place.
 use mathlib.Core.List.{◌∷◌, []}
 use mathlib.Core.Path.{sym, ap, ◌∙◌}
-use borrow.Author.Rules.{rules}
 use Rattle.tapeplan.specs.Planned.{planned_means}
 use Rattle.tapeplan.specs.declared.TapePlanned.{TapePlanned}
 use Rattle.fullerecru.proofs.numbers.planned_number.Goals as goal

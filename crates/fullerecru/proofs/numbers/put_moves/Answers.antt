@@ -5,7 +5,6 @@ use lib.Seq.{sets}
 use Rattle.arith.proofs.SignedLaws.{field_back}
 use Rattle.machine.proofs.Runs.{sets_all}
 use Rattle.fullerecru.specs.Moves.{block_moves}
-use borrow.Author.Rules.{rules}
 use Rattle.fullerecru.proofs.numbers.put_moves.Goals as goal
 
 pub returns : goal.returns

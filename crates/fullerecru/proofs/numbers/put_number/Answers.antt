@@ -1,6 +1,5 @@
 -- `fullerecru::numbers::put_number`: the list is stored whole.
 use mathlib.Core.List.{◌∷◌, []}
-use borrow.Author.Rules.{rules}
 use Rattle.machine.proofs.Runs.{sets_all}
 use Rattle.fullerecru.proofs.numbers.put_number.Goals as goal
 

@@ -1,5 +1,4 @@
 -- `fullerecru::orders::fullerecru_curve_chord`: the promise of `order` at the points, by its number.
-use borrow.Author.Rules.{rules}
 use mathlib.Core.Path.{ap}
 use Rattle.host.specs.declared.orders.Order.TheVariants.{CurveChord}
 use Rattle.host.specs.declared.orders.Point.{Point}

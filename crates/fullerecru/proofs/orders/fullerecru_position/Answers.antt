@@ -1,5 +1,4 @@
 -- `fullerecru::orders::fullerecru_position`: the host's point, stored.
-use borrow.Author.Rules.{rules}
 use mathlib.Core.Path.{ap, ◌∙◌}
 use Rattle.fullerecru.specs.Orders.{coordinates_of}
 use Rattle.fullerecru.proofs.orders.fullerecru_position.Goals as goal

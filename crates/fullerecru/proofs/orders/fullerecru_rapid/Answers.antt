@@ -1,5 +1,4 @@
 -- `fullerecru::orders::fullerecru_rapid`: the promise of `order` at the points, by its number.
-use borrow.Author.Rules.{rules}
 use mathlib.Core.Path.{ap}
 use Rattle.host.specs.declared.orders.Order.TheVariants.{Rapid}
 use Rattle.fullerecru.proofs.LentOrders.{ordered_by}

@@ -1,5 +1,4 @@
 -- `fullerecru::orders::put_point`: the list is stored whole.
-use borrow.Author.Rules.{rules}
 use Rattle.machine.proofs.Runs.{sets_all}
 use Rattle.fullerecru.specs.Orders.{coordinates_of}
 use Rattle.fullerecru.proofs.orders.put_point.Goals as goal

@@ -1,5 +1,4 @@
 -- `fullerecru::planners::fullerecru_add`: the promise of `add` at the block, by its number.
-use borrow.Author.Rules.{rules}
 use Rattle.fullerecru.proofs.Displayed.{plain_back, added_by}
 use Rattle.fullerecru.proofs.planners.fullerecru_add.Goals as goal
 

@@ -1,5 +1,4 @@
 -- `fullerecru::planners::fullerecru_fresh`: the promise of `fresh` at the limits that were read.
-use borrow.Author.Rules.{rules}
 use Rattle.fullerecru.proofs.Displayed.{fresh_by}
 use Rattle.fullerecru.proofs.planners.fullerecru_fresh.Goals as goal
 

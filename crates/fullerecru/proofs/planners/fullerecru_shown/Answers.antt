@@ -1,5 +1,4 @@
 -- `fullerecru::planners::fullerecru_shown`: the promise of `shown`, by its number.
-use borrow.Author.Rules.{rules}
 use Rattle.fullerecru.proofs.Displayed.{shown_by}
 use Rattle.fullerecru.proofs.planners.fullerecru_shown.Goals as goal
 

@@ -1,6 +1,5 @@
 -- `fullerecru::planners::fullerecru_take`: the promise of `take`, by its number, with the lent lists.
 use mathlib.Core.Path.{refl}
-use borrow.Author.Rules.{rules}
 use Rattle.fullerecru.proofs.Displayed.{taken_out}
 use Rattle.fullerecru.proofs.planners.fullerecru_take.Goals as goal
 

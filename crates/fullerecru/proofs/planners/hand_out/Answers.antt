@@ -1,6 +1,5 @@
 -- `fullerecru::planners::hand_out`: both lists are stored whole.
 use mathlib.Core.Path.{◌∙◌}
-use borrow.Author.Rules.{rules}
 use Rattle.machine.proofs.Runs.{sets_all}
 use Rattle.line.specs.Answers.{given_numbers}
 use Rattle.fullerecru.proofs.planners.hand_out.Goals as goal

@@ -1,5 +1,4 @@
 -- `fullerecru::plans::fullerecru_list_tape`: the promise of `list_tape` by number and place.
-use borrow.Author.Rules.{rules}
 use Rattle.fullerecru.proofs.LentLists.{filled_lent}
 use Rattle.fullerecru.proofs.plans.fullerecru_list_tape.Goals as goal
 

@@ -1,5 +1,4 @@
 -- `fullerecru::plans::fullerecru_plan_tape`: the promise of `plan_tape` by number and place.
-use borrow.Author.Rules.{rules}
 use Rattle.fullerecru.proofs.WholeTapes.{planned}
 use Rattle.fullerecru.proofs.plans.fullerecru_plan_tape.Goals as goal
 

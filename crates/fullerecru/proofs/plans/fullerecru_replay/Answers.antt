@@ -1,6 +1,5 @@
 -- `fullerecru::plans::fullerecru_replay`: the promise of `replay` by its number, with the number told.
 use mathlib.Core.Path.{refl}
-use borrow.Author.Rules.{rules}
 use Rattle.fullerecru.proofs.WholeTapes.{replayed}
 use Rattle.fullerecru.proofs.plans.fullerecru_replay.Goals as goal
 

@@ -1,5 +1,4 @@
 -- `fullerecru::reports::fullerecru_held_by`: the promise of `held_back` by number and place.
-use borrow.Author.Rules.{rules}
 use Rattle.fullerecru.proofs.LentLists.{filled_lent}
 use Rattle.fullerecru.proofs.reports.fullerecru_held_by.Goals as goal
 

@@ -1,5 +1,4 @@
 -- `fullerecru::reports::fullerecru_report_add`: the promise of `report::add` by number, place and figures.
-use borrow.Author.Rules.{rules}
 use Rattle.fullerecru.proofs.LentReports.{report_added, report_refused}
 use Rattle.fullerecru.proofs.reports.fullerecru_report_add.Goals as goal
 

@@ -1,6 +1,5 @@
 -- `fullerecru::tapes::fullerecru_read_record`: the answer of `read_record` by its number.
 use mathlib.Core.Path.{sym, ap, ◌∙◌}
-use borrow.Author.Rules.{rules}
 use Rattle.display.specs.Display.{refused}
 use Rattle.tape.specs.Answers.{record_means}
 use Rattle.fullerecru.proofs.FromBytes.{block_given, block_refused}

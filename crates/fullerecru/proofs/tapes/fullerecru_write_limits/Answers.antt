@@ -1,5 +1,4 @@
 -- `fullerecru::tapes::fullerecru_write_limits`: the promise of `write_limits` at the limits that were read.
-use borrow.Author.Rules.{rules}
 use Rattle.tape.specs.Answers.{limits_write_refusal, limits_written}
 use Rattle.fullerecru.proofs.FromBytes.{written}
 use Rattle.fullerecru.proofs.tapes.fullerecru_write_limits.Goals as goal

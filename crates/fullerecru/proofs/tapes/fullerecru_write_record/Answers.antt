@@ -1,5 +1,4 @@
 -- `fullerecru::tapes::fullerecru_write_record`: the promise of `write_record` at the block.
-use borrow.Author.Rules.{rules}
 use Rattle.tape.specs.Answers.{record_write_refusal, record_written}
 use Rattle.fullerecru.proofs.Displayed.{plain_back}
 use Rattle.fullerecru.proofs.FromBytes.{written}

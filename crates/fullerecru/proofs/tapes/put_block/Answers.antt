@@ -1,7 +1,6 @@
 -- `fullerecru::tapes::put_block`: both lists are stored whole.
 use Rattle.machine.proofs.Runs.{sets_all}
 use Rattle.fullerecru.specs.Moves.{block_numbers}
-use borrow.Author.Rules.{rules}
 use Rattle.fullerecru.proofs.tapes.put_block.Goals as goal
 
 pub returns : goal.returns

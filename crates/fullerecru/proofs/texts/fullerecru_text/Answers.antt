@@ -1,5 +1,4 @@
 -- `fullerecru::texts::fullerecru_text`: the promise of `text_records` by number, line and number of blocks.
-use borrow.Author.Rules.{rules}
 use Rattle.fullerecru.proofs.LentTexts.{text_written_lem, text_refused}
 use Rattle.fullerecru.proofs.texts.fullerecru_text.Goals as goal
 

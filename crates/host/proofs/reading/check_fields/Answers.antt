@@ -1,5 +1,4 @@
 -- `host::reading::check_fields`: the checks of the five fields, one behind the other.
-use borrow.Author.Rules.{rules}
 use mathlib.Core.Path.{◌∙◌}
 use Rattle.host.specs.Fields.{field_fault}
 use Rattle.host.proofs.Fields.{then_both}

@@ -1,5 +1,4 @@
 -- `host::reading::read_coordinate`: the reading of the difference.
-use borrow.Author.Rules.{rules}
 use mathlib.Core.Path.{ap, ◌∙◌}
 use Rattle.doubles.specs.Readings.{reading_of}
 use Rattle.host.proofs.reading.read_coordinate.Goals as goal

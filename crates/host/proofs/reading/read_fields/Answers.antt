@@ -1,5 +1,4 @@
 -- `host::reading::read_fields`: field by field, of the order's target.
-use borrow.Author.Rules.{rules}
 use mathlib.Core.Path.{ap, ◌∙◌}
 use Rattle.host.specs.Fields.{coordinate_reading, readings_of}
 use Rattle.host.specs.declared.orders.Point.{Point}

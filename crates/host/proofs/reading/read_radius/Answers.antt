@@ -1,5 +1,4 @@
 -- `host::reading::read_radius`: by the sort of the order.
-use borrow.Author.Rules.{rules}
 use mathlib.Core.Path.{sym, ap, ◌∙◌}
 use Rattle.host.specs.Fields.{radius_reading}
 use Rattle.host.proofs.reading.read_radius.Goals as goal

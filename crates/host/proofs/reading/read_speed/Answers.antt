@@ -1,5 +1,4 @@
 -- `host::reading::read_speed`: by the sort of the order.
-use borrow.Author.Rules.{rules}
 use mathlib.Core.Path.{sym, ap, ◌∙◌}
 use Rattle.host.specs.Fields.{speed_reading}
 use Rattle.host.proofs.reading.read_speed.Goals as goal

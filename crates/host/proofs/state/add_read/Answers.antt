@@ -1,5 +1,4 @@
 -- `host::state::add_read`: the promise of `add` at the block, and the host behind it.
-use borrow.Author.Rules.{rules}
 use mathlib.Core.Path.{refl}
 use Rattle.host.proofs.Outcomes.{add_promised}
 use Rattle.host.proofs.state.add_read.Goals as goal

@@ -1,5 +1,4 @@
 -- `host::state::amount`: by the sign of what was read.
-use borrow.Author.Rules.{rules}
 use mathlib.Core.Path.{ap, ◌∙◌}
 use lib.IntN.{nat_abs}
 use Rattle.arith.specs.Signed.{or_zero}

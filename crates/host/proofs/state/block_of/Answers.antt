@@ -1,5 +1,4 @@
 -- `host::state::block_of`: field by field.
-use borrow.Author.Rules.{rules}
 use mathlib.Core.Path.{◌∙◌}
 use Prim.Native.Nat.{◌+◌}
 use Rattle.arith.proofs.SignedLaws.{read_back_lem}

@@ -1,5 +1,4 @@
 -- `host::state::coordinate_double`: 32 bits fit a double.
-use borrow.Author.Rules.{rules}
 use mathlib.Core.Path.{◌∙◌}
 use Rattle.host.proofs.Hosts.{double_fits, double_is}
 use Rattle.host.proofs.state.coordinate_double.Goals as goal

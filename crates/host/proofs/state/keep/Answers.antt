@@ -1,5 +1,4 @@
 -- `host::state::keep`: the list is stored whole.
-use borrow.Author.Rules.{rules}
 use mathlib.Core.List.{◌∷◌, []}
 use mathlib.Core.Path.{◌∙◌}
 use Prim.Native.Nat.{◌+◌}

@@ -1,5 +1,4 @@
 -- `host::state::move_to`: both coordinates are small.
-use borrow.Author.Rules.{rules}
 use Rattle.host.proofs.Hosts.{move_fits, move_is}
 use Rattle.host.proofs.state.move_to.Goals as goal
 

@@ -1,5 +1,4 @@
 -- `host::state::number_for`: the bits of what was read.
-use borrow.Author.Rules.{rules}
 use mathlib.Core.Path.{ap, ◌∙◌}
 use Rattle.arith.proofs.SignedLaws.{read_back_lem}
 use Rattle.fields.specs.Signed.{bits_of}

@@ -1,5 +1,4 @@
 -- `host::state::store_fresh`: the list is stored whole.
-use borrow.Author.Rules.{rules}
 use mathlib.Core.List.{◌∷◌, []}
 use Rattle.fields.specs.Signed.{bits_of}
 use Rattle.machine.proofs.Runs.{sets_all}

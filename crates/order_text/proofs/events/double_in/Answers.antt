@@ -1,7 +1,6 @@
 -- `order_text::events::double_in`: the double of the word's bits.
 use mathlib.Core.Path.{ap, ◌∙◌}
 use lib.Ieee.{binary64, of_bits}
-use borrow.Author.Rules.{rules}
 use Rattle.order_text.proofs.events.double_in.Goals as goal
 
 pub returns : goal.returns

@@ -5,7 +5,6 @@ use Rattle.host.specs.declared.orders.Point.{Point}
 use Rattle.host.specs.declared.orders.Order.{Order}
 use Rattle.host.specs.declared.orders.Event.TheVariants as event
 use Rattle.order_text.specs.Orders.{kind_in, point_in, order_of, event_by, event_of}
-use borrow.Author.Rules.{rules}
 use Rattle.order_text.proofs.events.event_of.Goals as goal
 
 -- a kind that is not 0

@@ -5,7 +5,6 @@ use lib.Ieee.{Float}
 use Rattle.host.specs.declared.orders.Point.{Point}
 use Rattle.host.specs.declared.orders.Order.TheVariants.{Rapid, Feed, CurveChord}
 use Rattle.order_text.specs.Orders.{double_in, point_in, order_by, order_of}
-use borrow.Author.Rules.{rules}
 use Rattle.order_text.proofs.events.order_of.Goals as goal
 
 -- a kind that is neither 1 nor 2

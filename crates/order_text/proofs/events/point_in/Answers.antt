@@ -1,6 +1,5 @@
 -- `order_text::events::point_in`: coordinate by coordinate.
 use Rattle.order_text.specs.Orders.{point_in}
-use borrow.Author.Rules.{rules}
 use Rattle.order_text.proofs.events.point_in.Goals as goal
 
 pub returns : goal.returns

@@ -5,7 +5,6 @@ use Prim.Native.Nat.{ℕ, ◌+◌, ◌-◌, ◌*◌}
 use native.Mathlib.Omega.{arith}
 use lib.ListN.{take, drop}
 use Rattle.order_text.specs.Orders.{event_bytes, event_in, event_of}
-use borrow.Author.Rules.{rules}
 use Rattle.order_text.proofs.events.read_event.Goals as goal
 
 part_event : (bytes : List ℕ) (k : ℕ) → event_of (take (event_bytes * k + event_bytes - event_bytes * k) (drop (event_bytes * k) bytes)) ≡ event_in bytes k

@@ -4,7 +4,6 @@ use Rattle.arith.proofs.SignedLaws.{read_back_lem}
 use Rattle.fields.specs.Signed.{signed_of}
 use Rattle.machine.specs.Labels.{plain_block}
 use Rattle.replay.specs.Trace.{block_of, word_bits}
-use borrow.Author.Rules.{rules}
 use Rattle.replay.proofs.calls.block_of.Goals as goal
 
 pub returns : goal.returns

@@ -4,7 +4,6 @@ use Prim.Native.Nat.{ℕ, zero, suc}
 use Rattle.machine.specs.declared.Block.{Block}
 use Rattle.line.specs.Blocks.{add}
 use Rattle.replay.specs.Trace.{block_of, call_by, call_of}
-use borrow.Author.Rules.{rules}
 use Rattle.replay.proofs.calls.call_of.Goals as goal
 
 adds : (kind : ℕ) (b : Block) → (kind ≡ 0 → ⊥) → add b ≡ call_by kind b

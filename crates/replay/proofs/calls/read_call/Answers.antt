@@ -5,7 +5,6 @@ use Prim.Native.Nat.{ℕ, ◌+◌, ◌-◌, ◌*◌}
 use native.Mathlib.Omega.{arith}
 use lib.ListN.{take, drop}
 use Rattle.replay.specs.Trace.{call_bytes, call_in, call_of}
-use borrow.Author.Rules.{rules}
 use Rattle.replay.proofs.calls.read_call.Goals as goal
 
 part_call : (bytes : List ℕ) (k : ℕ) → call_of (take (call_bytes * k + call_bytes - call_bytes * k) (drop (call_bytes * k) bytes)) ≡ call_in bytes k

@@ -12,7 +12,6 @@ use Rattle.fields.specs.Signed.{bits_of}
 use Rattle.line.specs.Answers.{given_numbers}
 use Rattle.replay.specs.Trace.{word_bits}
 use Rattle.machine.proofs.Runs.{stored_both}
-use borrow.Author.Rules.{rules}
 use Rattle.replay.proofs.calls.store_row.Goals as goal
 
 -- the four numbers from the beginning

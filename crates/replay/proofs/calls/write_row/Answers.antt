@@ -3,7 +3,6 @@ use mathlib.Core.Path.{sym, ap, ◌∙◌}
 use Rattle.line.specs.Answers.{answer_means}
 use Rattle.line.specs.declared.Answer.{Answer}
 use Rattle.replay.specs.Rows.{row_from, row_of}
-use borrow.Author.Rules.{rules}
 use Rattle.replay.proofs.calls.write_row.Goals as goal
 
 pub returns-in-Accepted : goal.returns-in-Accepted
