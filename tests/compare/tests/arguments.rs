@@ -43,11 +43,9 @@ const LIMITS: &[u8] = b"machine.limits";
 const ABSENT: &[u8] = b"absent.steps";
 
 const NO_FILE: &str = "No such file or directory";
-
-/// Of a name that is no UTF-8 text, whether there is such a file or not: the programs
-/// have no path for it.
-const NO_TEXT: &str = "Invalid or incomplete multibyte or wide character";
 const TOO_LONG: &str = "File name too long";
+/// Of a file that is there and whose name is no UTF-8 text.
+const NO_TEXT: &str = "Invalid or incomplete multibyte or wide character";
 
 /// A program, and a file that it would read.
 struct Tool {
@@ -566,7 +564,8 @@ fn a_long_word_is_told() {
 }
 
 /// The word behind `--steps` is its file, whatever it is; a file that is named
-/// alone has a name that is no option's. One whose name is no text is told.
+/// alone has a name that is no option's. One whose name is no UTF-8 text is told,
+/// as the programs have no path for it.
 #[test]
 fn a_file_is_opened_by_any_name() {
     let names: [&[u8]; 6] = [
@@ -585,17 +584,20 @@ fn a_file_is_opened_by_any_name() {
             let path = named.join(OsStr::from_bytes(name));
             fs::write(path, content(tool.file)).expect("a file");
             let words = tool.with(name);
-            if str::from_utf8(name).is_err() {
-                tool.expect_unopened(&words, name, NO_TEXT);
-                count += 1;
-                continue;
-            }
             let child = tool
                 .command(&words)
                 .current_dir(&named)
                 .stdin(File::open(tool.input()).expect("an example"))
                 .spawn();
-            tool.expect_worked(&words, output_of(child.expect("a program")));
+            let output = output_of(child.expect("a program"));
+            match std::str::from_utf8(name) {
+                Ok(_) => tool.expect_worked(&words, output),
+                Err(_) => {
+                    let told = format!("cannot open '{}': {NO_TEXT}", shown(name));
+                    assert_eq!(output.errors, format!("{}: {told}\n", tool.name));
+                    assert_eq!(output.bytes, b"", "{words:?}");
+                }
+            }
             count += 1;
         }
         let near = [b"./", tool.file].concat();
@@ -626,11 +628,7 @@ fn a_file_that_cannot_be_opened_is_told() {
     let mut count = 0;
     for tool in tools() {
         for name in names.into_iter().filter(|name| tool.takes(name)) {
-            let reason = match str::from_utf8(name) {
-                Ok(_) => NO_FILE,
-                Err(_) => NO_TEXT,
-            };
-            tool.expect_unopened(&tool.with(name), name, reason);
+            tool.expect_unopened(&tool.with(name), name, NO_FILE);
             count += 1;
         }
         tool.expect_unopened(&tool.with(below), below, "Not a directory");

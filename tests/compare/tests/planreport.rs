@@ -42,14 +42,14 @@ const ABSENT: Trouble = ("open", "No such file or directory");
 const BELOW: Trouble = ("open", "Not a directory");
 const TOO_LONG: Trouble = ("open", "File name too long");
 const CLOSED: Trouble = ("open", "Permission denied");
-const DIRECTORY: Trouble = ("read", "Is a directory");
-const BROKEN: Trouble = ("read", "Input/output error");
-/// A name that is no UTF-8 text: there may be such a file, but the programs have
-/// no path for it.
+/// A file that is there, of a name that is no UTF-8 text: the programs have no path
+/// for it.
 const NO_TEXT: Trouble = (
     "open",
     "Invalid or incomplete multibyte or wide character",
 );
+const DIRECTORY: Trouble = ("read", "Is a directory");
+const BROKEN: Trouble = ("read", "Input/output error");
 
 /// A folder with files in it, which is there as long as this value.
 struct Folder {
@@ -76,7 +76,11 @@ impl Folder {
     /// Makes a file of a name that lies in the folder.
     fn put(&mut self, name: &[u8], bytes: &[u8]) {
         fs::write(self.path.join(OsStr::from_bytes(name)), bytes).expect("a file");
-        self.know(name, Ok(bytes.to_vec()));
+        let content = match std::str::from_utf8(name) {
+            Ok(_) => Ok(bytes.to_vec()),
+            Err(_) => Err(NO_TEXT),
+        };
+        self.know(name, content);
     }
 
     /// Notes what a name has.
@@ -85,9 +89,6 @@ impl Folder {
     }
 
     fn content(&self, name: &[u8]) -> Result<&[u8], Trouble> {
-        if str::from_utf8(name).is_err() {
-            return Err(NO_TEXT);
-        }
         match self.files.get(name) {
             Some(content) => content.as_deref().map_err(|trouble| *trouble),
             None => Err(ABSENT),
@@ -521,8 +522,7 @@ refused 2 at 1 still
 }
 
 /// A name has any bytes but 0 and, in the folder, no slash: one byte alone, and
-/// between two letters. Where they are no text it is told that it cannot be opened,
-/// though there is such a file.
+/// between two letters. Where they are no text it is told that it cannot be opened.
 #[test]
 fn names_have_any_byte() {
     let mut folder = Folder::new("bytes");
