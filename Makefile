@@ -137,7 +137,7 @@ $(TAPES) $(TRACES) $(STEPS) $(TEXTS) $(ORDERS): example-tools
 example-tools:
 	@tools/needs 'make examples' bash cargo rustc
 
-#: fmt        lays the sources out (1 s)
+#: fmt        lays the sources out (15 s)
 fmt:
 	@tools/needs 'make fmt' rt
 	@for crate in $$(tools/uses); do (cd crates/$$crate && rt fmt) || exit 1; done
