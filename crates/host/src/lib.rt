@@ -61,7 +61,7 @@ pub fn order(
 
 // An order, an add or a take, as a value.
 pub fn event(memory: &mut [u64; planner::NUMBERS], host: &mut [u64; NUMBERS], e: Event) -> Answer
-    ensures { EventDone (record { memory = memory.entry.now; host = host.old }) e (answer_means result) (record { memory = memory.exit.now; host = host.new }) }
+    ensures { EventDone (record { memory = memory.old; host = host.old }) e (answer_means result) (record { memory = memory.new; host = host.new }) }
 {
     match e {
         Event::Order(o, offset) => match order(memory, host, o, offset) {

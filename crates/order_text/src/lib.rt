@@ -34,7 +34,7 @@ fn run(
     text: &mut [u8],
 ) -> usize
     requires { length text.old ≡ text_bytes }
-    ensures { RanText recorded_events (chunk_calls recorded_events bytes.now) (record { memory = memory.entry.now; host = host.old }) (record { memory = memory.exit.now; host = host.new }) text.old result text.new }
+    ensures { RanText recorded_events (chunk_calls recorded_events bytes.now) (record { memory = memory.old; host = host.old }) (record { memory = memory.new; host = host.new }) text.old result text.new }
 {
     let n = records_of(bytes, EVENT_BYTES, EVENTS);
     let mut end: usize = 0;
@@ -55,7 +55,7 @@ pub fn run_chunk(
     host: &mut [u64; host::NUMBERS],
     text: &mut [u8; TEXT],
 ) -> usize
-    ensures { RanText recorded_events (chunk_calls recorded_events bytes.now) (record { memory = memory.entry.now; host = host.old }) (record { memory = memory.exit.now; host = host.new }) text.old result text.new }
+    ensures { RanText recorded_events (chunk_calls recorded_events bytes.now) (record { memory = memory.old; host = host.old }) (record { memory = memory.new; host = host.new }) text.old result text.new }
 {
     run(bytes, memory, host, text)
 }
@@ -73,7 +73,7 @@ fn write_point(host: &[u64; host::NUMBERS], text: &mut [u8], at: usize) -> usize
 // The closing lines of a planner, and behind them the host's.
 fn close_both(memory: &[u64; NUMBERS], host: &[u64; host::NUMBERS], text: &mut [u8]) -> usize
     requires { length text.old ≡ text_bytes }
-    ensures { ClosedOrders (record { memory = memory.entry.now; host = host.now }) text.old result text.new }
+    ensures { ClosedOrders (record { memory = memory.now; host = host.now }) text.old result text.new }
 {
     let end = close_in(memory, text);
     write_point(host, text, end)
@@ -82,7 +82,7 @@ fn close_both(memory: &[u64; NUMBERS], host: &[u64; host::NUMBERS], text: &mut [
 // Stores the closing lines from the first byte on: the number of blocks held, the plan, and the host's
 // point. Returns how many bytes they take.
 pub fn close(memory: &[u64; NUMBERS], host: &[u64; host::NUMBERS], text: &mut [u8; TEXT]) -> usize
-    ensures { ClosedOrders (record { memory = memory.entry.now; host = host.now }) text.old result text.new }
+    ensures { ClosedOrders (record { memory = memory.now; host = host.now }) text.old result text.new }
 {
     close_both(memory, host, text)
 }

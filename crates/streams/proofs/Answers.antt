@@ -3,12 +3,21 @@ use mathlib.Core.Path.{◌≡◌, refl}
 use mathlib.Core.Bool.{Bool, true, false, cond}
 use Prim.Native.Nat.{ℕ, ◌≤◌, ◌<◌}
 use native.Mathlib.Omega.{arith}
-use borrow.Author.Tests.{eqb-false}
+use borrow.Author.Tests.{eqb-false, ne_eqb}
 use lib.Dec.{eqb}
 use Rattle.std.specs.Prelude.{Result, Ok, Err, IfOk}
 use Rattle.std.specs.declared.io.Error.{Error}
-use Rattle.streams.specs.declared.Next.TheVariants.{More, Ended}
+use Rattle.streams.specs.declared.Next.TheVariants.{More, Ended, Failed}
 use Rattle.streams.specs.Input.{next_of}
+
+pub below : (why : Error) → Failed why ≡ next_of (Err why)
+below why = refl
+
+pub above : (n : ℕ) → 0 < n → More n ≡ next_of (Ok n)
+above n h = rw (ne_eqb n 0 (λ e. omega arith))
+
+pub neither : Ended ≡ next_of (Ok 0)
+neither = refl
 
 -- bytes more are at least one, and no more than there was room for
 pub more_within : (room n : ℕ) (answer : Result ℕ Error) → IfOk answer (λ k. k ≤ room) → next_of answer ≡ More n → (0 < n) × (n ≤ room)
