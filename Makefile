@@ -16,7 +16,7 @@ SHARED = libfullerecru.so.$(VERSION)
 SONAME = libfullerecru.so.$(SO_VERSION)
 LINKS = $(LIB)/$(SONAME) $(LIB)/libfullerecru.so
 
-#: lib        the static and the shared library, in target/lib (20 min; 1 s where nothing changed)
+#: lib        the static and the shared library, in target/lib (7 min; 1 s where nothing changed)
 lib:
 	@tools/needs 'make lib' bash rt cc ld
 	@tools/archive fullerecru
@@ -58,7 +58,7 @@ uninstall:
 	@tools/needs 'make uninstall' bash
 	@tools/install --remove
 
-#: run        lists the tape TAPE=examples/tapes/mould-row.tape (15 min the first time, then 1 s)
+#: run        lists the tape TAPE=examples/tapes/mould-row.tape (4 min the first time, then 1 s)
 run:
 	@tools/needs 'make run' bash rt
 	@tools/list "$$TAPE"
@@ -66,12 +66,12 @@ run:
 # The programs for users; the others of crates/ are for tests.
 PROGRAMS = planlist ngctape planreplay planreport planorders
 
-#: programs   planlist, ngctape, planreplay, planreport and planorders, in target/bin (25 min; 1 s where nothing changed)
+#: programs   planlist, ngctape, planreplay, planreport and planorders, in target/bin (10 min; 1 s where nothing changed)
 programs:
 	@tools/needs 'make programs' bash rt
 	@tools/program $(PROGRAMS)
 
-#: test       every check: it EMPTIES target/ once rt ci is done (60 min; 10 min where all is kept); ends in 'N passed, M failed'
+#: test       every check: it EMPTIES target/ once rt ci is done (20 min; 4 min where all is kept); ends in 'N passed, M failed'
 test:
 	@tools/needs 'make test' bash
 	@tests/run
