@@ -1,3 +1,3 @@
+-- The laws of what is read.
 pub mod Read
-pub mod Replaced
 pub mod Scans

@@ -7,14 +7,14 @@ pub mod file;
 mod lines;
 mod scan;
 
-ghost use Rattle.std.specs.Prelude.{◌≡◌, ◌≤◌, length};
-ghost use Rattle.arguments.specs.Files.{AtWithin, ListWithin, at_of};
-ghost use Rattle.arguments.specs.Lines.{name_size};
-ghost use Rattle.arguments.specs.Starts.{Carried, Started, file_named, start_of};
+ghost use Rattle.std.specs.Prelude.{◌≡◌, ◌≤◌, ◌<◌, ◌^◌, length, IfSome};
+ghost use Rattle.arguments.specs.Files.{AtWithin, at_of};
+ghost use Rattle.arguments.specs.Starts.{Asking, Carried, Started, file_named, start_of};
+ghost use Rattle.options.specs.declared.Seen.{Seen};
+ghost use Rattle.streams.specs.declared.Streams.{Streams};
 
-use arith::whole::fewer;
 use file::read_file;
-use lines::{NAME, say_failed, say_missing, say_usage, say_version, say_wrong};
+use lines::Reporter;
 use options::{Asked, Form, Seen, asked_by};
 use scan::{is_word, read_seen, read_word};
 use std::io::{Error, Stderr};
@@ -28,145 +28,133 @@ pub const STEPS: usize = machine::torque::STEPS + 1;
 // Bytes of the longest name that can be opened, and one more.
 pub const PATH_MAX: usize = 4_096;
 
-// What is left to do for a program.
+// A program: its name, its usage, what its work writes to standard output, and what it takes. Two are never compared.
 #[derive(Clone, Copy)]
-pub enum Start {
-    // its work: what its words say, and so many bytes of the file that is read at once at the beginning of the list that was lent
-    Work(Seen, usize),
-    // nothing: the usage or the version was written, or what is wrong was reported
-    Done,
+pub struct Program<'a> {
+    pub name: &'a [u8],
+    pub usage: &'a [u8],
+    pub output: &'a [u8],
+    pub form: Form,
 }
 
-// Why a file's bytes could not be had.
-#[derive(Clone, Copy)]
-pub enum Fault {
-    Unopened,
-    Unread,
+// A program's work: what its words say, and so many bytes of the file that is read at once, at the beginning of the list that was
+// lent. A number beside the list, as std's `read` answers it.
+#[derive(Clone, Copy, Debug, PartialEq, Eq, Hash)]
+pub struct Work {
+    pub seen: Seen,
+    pub got: usize,
 }
 
-// What was read of a file.
-#[derive(Clone, Copy)]
-pub enum FileRead {
-    // so many bytes: all that there was room for, or all to the end of the file
-    Bytes(usize),
-    // nothing, for this reason
-    Failed(Fault, Error),
+// Why a program's work ended before it was done, with the system's reason, which has no equality.
+#[derive(Clone, Copy, Debug)]
+pub enum WorkError {
+    // standard input could not be read to its end
+    Input(Error),
+    // standard output did not take all that was written
+    Output(Error),
 }
 
-// What was read of a file whose name is at a place.
-#[derive(Clone, Copy)]
-pub enum FileAt {
-    // so many bytes of its name and so many of the file, each at the beginning of its list
-    Bytes(usize, usize),
-    // nothing: it could not be opened or read, which was reported
-    Told,
+// Why a file's bytes could not be had, with the system's reason, which has no equality.
+#[derive(Clone, Copy, Debug)]
+pub enum FileError {
+    Unopened(Error),
+    Unread(Error),
+}
+
+// So many bytes of a file's name and so many of the file were read, each at the beginning of its list.
+#[derive(Clone, Copy, Debug, PartialEq, Eq, Hash)]
+pub struct FileRead {
+    pub named: usize,
+    pub got: usize,
 }
 
 // What was read of a file whose name has so many bytes.
-fn at_of(read: FileRead, named: usize) -> FileAt
+fn at_of(read: Result<usize, FileError>, named: usize) -> Option<FileRead>
     ensures { result ≡ at_of read named }
 {
-    match read {
-        FileRead::Bytes(n) => FileAt::Bytes(named, n),
-        FileRead::Failed(_, _) => FileAt::Told,
-    }
+    let got = read.ok()?;
+    Some(FileRead { named, got })
 }
 
-// The place of the file that is read at once, 0 for none: the steps', or the first other word if the program knows no steps.
-fn file_named(f: Form, s: Seen) -> usize
+// The place of the file that is read at once, if there is one: the steps', or the first other word if the program knows no steps.
+fn file_named(f: Form, s: Seen) -> Option<usize>
     ensures { result ≡ file_named f s }
 {
     if f.steps { s.steps } else { s.first }
 }
 
-// What is left to do once the file was read, or was not.
-fn start_of(s: Seen, read: FileAt) -> Start
-    ensures { result ≡ start_of s read }
+// What is left to do once so many bytes of the file were read, or it was not.
+fn start_of(seen: Seen, read: Option<usize>) -> Option<Work>
+    ensures { result ≡ start_of seen read }
 {
-    match read {
-        FileAt::Bytes(_, n) => Start::Work(s, n),
-        FileAt::Told => Start::Done,
-    }
-}
-
-// Says why a file failed, if it did.
-fn tell(errors: Stderr, program: &[u8], read: FileRead, name: &mut [u8])
-    requires { length program.now ≤ name_size }
-{
-    match read {
-        FileRead::Bytes(_) => return,
-        FileRead::Failed(fault, why) => say_failed(errors, program, fault, why, name),
-    }
+    let got = read?;
+    Some(Work { seen, got })
 }
 
 // Reads the name at this place and the file of that name. If that fails it is reported.
 fn read_at<R: Env + Files>(
     rt: &R,
-    errors: Stderr,
-    program: &[u8],
+    reporter: Reporter,
     place: usize,
     name: &mut [u8],
     list: &mut [u8],
-) -> FileAt
-    requires { length program.now ≤ name_size }
+) -> Option<FileRead>
     ensures { AtWithin (length name.new) (length list.new) result }
 {
-    let got = read_word(rt, place, name);
-    let read = read_file(rt, &name[..got], list);
-    tell(errors, program, read, &mut name[..got]);
-    at_of(read, got)
+    let named = read_word(rt, place, name);
+    let read = read_file(rt, &name[..named], list);
+    if let Err(why) = read {
+        reporter.say_failed(why, &mut name[..named]);
+    }
+    at_of(read, named)
 }
 
-// Reads the file whose name is at this place, 0 if none is named. If that fails it is reported. The list for the name
-// has one byte more than the longest name that can be opened: what is longer cannot, whatever follows.
+// Reads the file whose name is at this place, if one is named. If that fails it is reported. The list for the name has one byte
+// more than the longest name that can be opened: what is longer cannot, whatever follows.
 fn read_named<R: Env + Files>(
     rt: &R,
-    errors: Stderr,
-    program: &[u8],
-    place: usize,
+    reporter: Reporter,
+    place: Option<usize>,
     list: &mut [u8],
-) -> FileAt
-    requires { length program.now ≤ name_size }
-    ensures { ListWithin (length list.new) result }
+) -> Option<usize>
+    ensures { IfSome result (λ got. got ≤ length list.new) }
 {
-    if place == 0 {
-        return FileAt::Bytes(0, 0);
-    }
+    let Some(place) = place else {
+        return Some(0);
+    };
     let mut name = [0u8; PATH_MAX];
-    read_at(rt, errors, program, place, &mut name, list)
+    let read = read_at(rt, reporter, place, &mut name, list)?;
+    Some(read.got)
 }
 
-// Does what the words of a program of this form ask for, but its work. Returns what is left.
+// Does what the words of a program ask for, but its work. Returns what is left.
 fn carry_out<R: Env + Files>(
     rt: &R,
     streams: Streams,
-    program: &[u8],
-    usage: &[u8],
-    f: Form,
+    program: Program,
     s: Seen,
     list: &mut [u8],
-) -> Start
-    ensures { Carried f s (length list.new) result }
+) -> Option<Work>
+    ensures { Carried program.entry.form s (length list.new) result }
 {
-    let shown = fewer(program.len(), NAME);
-    let name = &program[..shown];
+    let f = program.form;
+    let reporter = Reporter::of(streams.errors, program.name);
     match asked_by(f, s) {
         Asked::Work => {
-            let place = file_named(f, s);
-            return start_of(s, read_named(rt, streams.errors, name, place, list));
+            return start_of(s, read_named(rt, reporter, file_named(f, s), list));
         }
-        Asked::Usage => say_usage(streams, name, usage),
-        Asked::Version => say_version(streams, name),
-        Asked::Wrong(place) => say_wrong(rt, streams.errors, name, f.input, place),
-        Asked::Missing(kind) => say_missing(streams.errors, name, f.numbers, kind),
+        Asked::Usage => reporter.say_usage(streams.output, program.usage),
+        Asked::Version => reporter.say_version(streams.output),
+        Asked::Wrong(place) => reporter.say_wrong(rt, f.input, place),
+        Asked::Missing(option) => reporter.say_missing(f.numbers, option),
     }
-    Start::Done
+    None
 }
 
-// What is left to do for a program of this name and form: its work if its words ask for it, with the bytes of the steps' file, or of
-// the file that it needs if it knows no steps, at the beginning of the list that is lent, as many as there is room for. Else what it
-// is asked has been done: the usage or the version is written to standard output, or the first word that is wrong, what is missing, or a
-// file that could not be opened or read is reported on standard error. All words are looked at before that.
+// What is left to do for a program: its work if its words ask for it, with the bytes of the steps' file, or of the file that it needs
+// if it knows no steps, at the beginning of the list that is lent, as many as there is room for. Else what it is asked has been done:
+// the usage or the version is written to standard output, or the first word that is wrong, what is missing, or a file that could not be
+// opened or read is reported on standard error. All words are looked at before that.
 //
 // Open is what the words are and what the file holds, so which of these it is; that is the system's part. What is made of the words is
 // the promise of `options`, and what is written that of `lines`. If the work is left, there are words that ask for it (`AsksWork`) and
@@ -174,27 +162,44 @@ fn carry_out<R: Env + Files>(
 pub fn read_start<R: Env + Files>(
     rt: &R,
     streams: Streams,
-    program: &[u8],
-    usage: &[u8],
-    f: Form,
+    program: Program,
     list: &mut [u8],
-) -> Start
-    ensures { Started f (length list.new) result }
+) -> Option<Work>
+    ensures { Started program.entry.form (length list.new) result }
 {
-    let seen = read_seen(rt, f, words_end(rt));
-    carry_out(rt, streams, program, usage, f, seen, list)
+    let seen = read_seen(rt, program.form, words_end(rt));
+    carry_out(rt, streams, program, seen, list)
+}
+
+// Starts a program: does its work with the first bytes, at most N, of the file that is read at once, if its words ask for it, and
+// reports if that ends before it is done; else what they ask for. The work is done only with words that ask for it.
+pub fn start<const N: usize, F: FnOnce(Streams, Seen, &[u8]) -> Result<(), WorkError>>(
+    rt: &HostRuntime,
+    program: Program,
+    work: F,
+)
+    requires room { N < 2 ^ 63 }
+    requires callable { (streams : Streams) (seen : Seen) (list : _) → Asking program.form seen → length list.now ≤ N → F.pre work streams seen list }
+{
+    let streams = Streams {
+        input: rt.stdin(),
+        output: rt.stdout(),
+        errors: rt.stderr(),
+    };
+    let mut list = [0u8; N];
+    if let Some(left) = read_start(rt, streams, program, &mut list) {
+        let done = work(streams, left.seen, &list[..left.got]);
+        if let Err(why) = done {
+            Reporter::of(streams.errors, program.name).say_ended(why, program.output);
+        }
+    }
 }
 
 // The place after the last word. A program has as many words as long as it runs.
 pub fn words_end<R: Env>(rt: &R) -> usize {
-    let mut end: usize = 0;
-    while end < usize::MAX {
-        if !is_word(rt, end) {
-            return end;
-        }
-        end += 1;
-    }
-    end
+    (0..usize::MAX)
+        .find(|&place| !is_word(rt, place))
+        .unwrap_or(usize::MAX)
 }
 
 // Reads the name at a place, and the file of that name until the list is full or the file ends. A name that fills its list may be
@@ -209,9 +214,8 @@ pub fn read_file_at<R: Env + Files>(
     place: usize,
     name: &mut [u8],
     list: &mut [u8],
-) -> FileAt
+) -> Option<FileRead>
     ensures { AtWithin (length name.new) (length list.new) result }
 {
-    let shown = fewer(program.len(), NAME);
-    read_at(rt, errors, &program[..shown], place, name, list)
+    read_at(rt, Reporter::of(errors, program), place, name, list)
 }

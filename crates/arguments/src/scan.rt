@@ -12,7 +12,7 @@ use std::rt::Env;
 const WORD: usize = 16;
 
 // Reads the word at a place, one that is too long by its beginning. Returns how many bytes it has. Which bytes are read is
-// open, as no contract says what a program is started with.
+// open, as no contract says what a program is started with. 0 where there is no word: `is_word` tells whether there is one.
 pub fn read_word<R: Env>(rt: &R, place: usize, word: &mut [u8]) -> usize
     ensures { IsPrefixLen result word.new }
 {
@@ -26,10 +26,7 @@ pub fn read_word<R: Env>(rt: &R, place: usize, word: &mut [u8]) -> usize
 // Whether there is a word at a place.
 pub fn is_word<R: Env>(rt: &R, place: usize) -> bool {
     let mut byte = [0u8; 1];
-    match rt.arg(place, &mut byte) {
-        Err(FillError::NotPresent) => false,
-        _ => true,
-    }
+    !matches!(rt.arg(place, &mut byte), Err(FillError::NotPresent))
 }
 
 // The word at a place. One that is too long is judged by its beginning.
@@ -47,10 +44,8 @@ pub fn read_seen<R: Env>(rt: &R, form: Form, end: usize) -> Seen
     ensures { SeenBefore form end result }
 {
     let mut seen = none_seen();
-    let mut place: usize = 1;
-    while place < end {
+    for place in 1..end {
         seen = with_word(form, seen, word_at(rt, place), place);
-        place += 1;
     }
     seen
 }

@@ -1,25 +1,8 @@
 -- Laws of products and long division in base 2^32, over plain numbers. From the laws of products, quotients and remainders.
-use Rattle.std.proofs.Common.{◌≡◌, ℕ, zero, suc, ◌+◌, ◌-◌, ◌*◌, ◌/◌, ◌%◌, ◌^◌, ◌<◌, ◌≤◌, min, sym, ap, ◌∙◌, mul-le-mul_right, mod-lt, mul_assoc, suc-mul, div-lt_iff_lt-mul, add-mul, mul-le-mul, mul-lt-mul_of_pos_right, lt_of_not-le, div-add-mod', zero-mul, mul-add, mul_right_comm, div-mul-le_self, add-one, arith, pow_pos, pow-add}
-use native.Mathlib.Nat.{mul-mul-mul_comm, min-eq_left, min-eq_right, lt-div-mul-add, mul-add-div_right, div-div-eq-div-mul, mul-div-mul_right}
+use Rattle.std.proofs.Common.{◌≡◌, ℕ, zero, suc, ◌+◌, ◌-◌, ◌*◌, ◌/◌, ◌%◌, ◌^◌, ◌<◌, ◌≤◌, min, sym, ap, ◌∙◌, mul-le-mul_right, mod-lt, mul_assoc, suc-mul, div-lt_iff_lt-mul, add-mul, mul-le-mul, mul-lt-mul_of_pos_right, lt_of_not-le, div-add-mod', zero-mul, mul-add, mul_right_comm, div-mul-le_self, add-one, arith, mod-eq_of_lt, pow_pos, pow-add}
+use native.Mathlib.Nat.{min-eq_left, min-eq_right, lt-div-mul-add, mul-add-div_right, div-div-eq-div-mul, mul-div-mul_right}
 use native.Mathlib.Decide.{dec_le}
 use lib.Count.{count_leading_zeros, leading_top}
-
--- a product from the products of its factors' halves
-pub halves : (B a₁ a₀ b₁ b₀ : ℕ) → (a₁ * B + a₀) * (b₁ * B + b₀) ≡ a₁ * b₁ * (B * B) + (a₁ * b₀ + a₀ * b₁) * B + a₀ * b₀
-halves B a₁ a₀ b₁ b₀ =
-    omega (arith, add-mul (a₁ * B) a₀ (b₁ * B + b₀), mul-add (a₁ * B) (b₁ * B) b₀, mul-add a₀ (b₁ * B) b₀, mul-mul-mul_comm a₁ B b₁ B, mul_right_comm a₁ B b₀, mul_assoc a₀ b₁ B, add-mul (a₁ * b₀) (a₀ * b₁) B)
-
--- the columns of a product with their carries: p, q, r, s are the four products of halves
-pub columns : (p q r s : ℕ) →
-    (p + (q + s / 2 ^ 32) / 2 ^ 32 + (r + (q + s / 2 ^ 32) % 2 ^ 32) / 2 ^ 32) * 2 ^ 64
-    + ((r + (q + s / 2 ^ 32) % 2 ^ 32) % 2 ^ 32 * 2 ^ 32 + s % 2 ^ 32)
-    ≡ p * 2 ^ 64 + (q + r) * 2 ^ 32 + s
-columns p q r s = omega arith
-
--- a product by its columns
-pub product_columns : (a b : ℕ) →
-    a / 2 ^ 32 * (b / 2 ^ 32) * 2 ^ 64 + (a / 2 ^ 32 * (b % 2 ^ 32) + a % 2 ^ 32 * (b / 2 ^ 32)) * 2 ^ 32 + a % 2 ^ 32 * (b % 2 ^ 32) ≡ a * b
-product_columns a b = sym (halves (2 ^ 32) (a / 2 ^ 32) (a % 2 ^ 32) (b / 2 ^ 32) (b % 2 ^ 32)) ∙ (λ i. div-add-mod' a (2 ^ 32) i * div-add-mod' b (2 ^ 32) i)
 
 -- the product of two halves
 pub half_product : {x y : ℕ} → x < 2 ^ 32 → y < 2 ^ 32 → x * y ≤ (2 ^ 32 - 1) * (2 ^ 32 - 1)
@@ -127,25 +110,28 @@ shifted_below high low d s h a b =
     lead : (t v r n : ℕ) → t * 2 ^ 64 + r ≡ n → n < v * 2 ^ 64 → t < v
     lead t v r n e f = omega arith
 
--- a division by d after both sides are multiplied by `scale`, which brings d's leading bit to 63
-pub record Scaled (high low d s scale back : ℕ) : Type 0 where
-  pub shift : s ≤ 63
-  pub room : 0 < back
-  pub wide : 2 ^ 63 ≤ d * scale
-  pub fits : d * scale < 2 ^ 64
-  pub below : high * scale + low / 2 / back < d * scale
-  pub same : ((high * scale + low / 2 / back) * 2 ^ 64 + low * 2 ^ s % 2 ^ 64) / (d * scale) ≡ (high * 2 ^ 64 + low) / d
+-- a division by d after both sides are multiplied by the power of two that brings d's leading bit to 63
+pub record Scaled (high low d divisor top rest : ℕ) : Type 0 where
+  pub wide : 2 ^ 63 ≤ divisor
+  pub below : top < divisor
+  pub fits : divisor < 2 ^ 64
+  pub same : (top * 2 ^ 64 + rest) / divisor ≡ (high * 2 ^ 64 + low) / d
 
 -- the shift by the leading zeros of d is such a scaling
-pub scaled : (high low d s scale back : ℕ) → s ≡ count_leading_zeros 64 d → scale ≡ 2 ^ s → back ≡ 2 ^ (63 - s) → high < d → d < 2 ^ 64 → low < 2 ^ 64 → Scaled high low d s scale back
-scaled high low d s scale back e f g h w l = rw (f, g) (go (normal d s e (omega arith) w))
+pub scaled : (high low d s : ℕ) → s ≡ count_leading_zeros 64 d → high < d → d < 2 ^ 64 → low < 2 ^ 64 →
+    Scaled high low d (d * 2 ^ s % 2 ^ 64) (high * 2 ^ s % 2 ^ 64 + low / 2 / 2 ^ (63 - s)) (low * 2 ^ s % 2 ^ 64)
+scaled high low d s e h w l = go (normal d s e (omega arith) w)
   where
-    go : (s ≤ 63) × (2 ^ 63 ≤ d * 2 ^ s) × (d * 2 ^ s < 2 ^ 64) → Scaled high low d s (2 ^ s) (2 ^ (63 - s))
-    go (a, b, c) = record {
-      shift = a;
-      room = pow_pos (63 - s);
-      wide = b;
-      fits = c;
-      below = shifted_below high low d s a h l;
-      same = ap (λ (x : ℕ). x / (d * 2 ^ s)) (shifted high low s a) ∙ mul-div-mul_right (high * 2 ^ 64 + low) d (pow_pos s);
-    }
+    go : (s ≤ 63) × (2 ^ 63 ≤ d * 2 ^ s) × (d * 2 ^ s < 2 ^ 64) →
+        Scaled high low d (d * 2 ^ s % 2 ^ 64) (high * 2 ^ s % 2 ^ 64 + low / 2 / 2 ^ (63 - s)) (low * 2 ^ s % 2 ^ 64)
+    go (a, b, c) =
+        let divisor : d * 2 ^ s % 2 ^ 64 ≡ d * 2 ^ s = mod-eq_of_lt c in
+        let less : high * 2 ^ s < d * 2 ^ s = mul-lt-mul_of_pos_right h (pow_pos s) in
+        let front : high * 2 ^ s % 2 ^ 64 ≡ high * 2 ^ s = mod-eq_of_lt (omega arith) in
+        rw (divisor, front)
+        (record {
+          wide = b;
+          fits = c;
+          below = shifted_below high low d s a h l;
+          same = ap (λ (x : ℕ). x / (d * 2 ^ s)) (shifted high low s a) ∙ mul-div-mul_right (high * 2 ^ 64 + low) d (pow_pos s);
+        })

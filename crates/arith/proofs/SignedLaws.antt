@@ -1,6 +1,6 @@
 -- Laws of signed numbers at 64 bits: what fits, what the machine reads back, and the gap. From the laws of ℤ.
-use Rattle.std.proofs.Common.{◌≡◌, ℕ, zero, suc, ◌+◌, ◌-◌, ◌*◌, ◌^◌, ◌<◌, ◌≤◌, Bool, true, false, cond, ltb, ℤ, pos, negsuc, ◌+ℤ◌, ◌-ℤ◌, ◌*ℤ◌, neg_ℤ, nat_abs, refl, ap, ◌∙◌, subst, le_refl, arith, to_z-of_z, w64, SFits, to_z, of_z, ltb-true}
-use lib.IntN.{sub_ℕ, suc_ℤ, +ℤ_one, +ℤ_idl, neg_ℤ-neg_ℤ}
+use Rattle.std.proofs.Common.{◌≡◌, ℕ, zero, suc, ◌+◌, ◌-◌, ◌*◌, ◌^◌, ◌<◌, ◌≤◌, Bool, true, false, cond, ltb, ℤ, pos, negsuc, ◌+ℤ◌, ◌-ℤ◌, ◌*ℤ◌, neg_ℤ, nat_abs, refl, ◌∙◌, le_refl, arith, to_z-of_z, w64, SFits, to_z, of_z, ltb-true}
+use lib.IntN.{sub_ℕ}
 use lib.Signed.{mag, lt_z}
 use Rattle.arith.specs.Signed.{gap_of, or_zero}
 
@@ -26,11 +26,6 @@ fits_small z h = record { sfits = omega (arith, mag_le z) }
 -- and is read back as it is
 pub small_back : (z : ℤ) → nat_abs z < 2 ^ 63 → read_back z ≡ z
 small_back z h = read_back_lem (fits_small z h)
-
--- the magnitude of a number that fits
-pub magnitude_below : (z : ℤ) → SFits w64 z → nat_abs z ≤ 2 ^ 63
-magnitude_below (pos n) f = omega (arith, f.sfits)
-magnitude_below (negsuc n) f = omega (arith, f.sfits)
 
 pub nat_abs_neg : (z : ℤ) → nat_abs (neg_ℤ z) ≡ nat_abs z
 nat_abs_neg (pos zero) = refl
@@ -78,38 +73,6 @@ not_negative (negsuc n) e = absurd (differ e)
     differ : true ≡ false → ⊥
     differ p = let z : ◌≡◌ {A = ℕ} 0 1 = cc in omega arith
 
-next_of_negative : (n : ℕ) → negsuc n +ℤ pos 1 ≡ neg_ℤ (pos n)
-next_of_negative n = +ℤ_one (negsuc n) ∙ step n
-  where
-    step : (n : ℕ) → suc_ℤ (negsuc n) ≡ neg_ℤ (pos n)
-    step zero = refl
-    step (suc n) = refl
-
--- -(x + 1) of x = -(n + 1) is n, and neither step leaves 64 bits
-module _ (x : ℤ) (n : ℕ) (f : SFits w64 x) (e : x ≡ negsuc n) where
-  pub small : n < 2 ^ 63
-  small = subst (λ (z : ℤ). mag z < 2 ^ 63) e f.sfits
-
-  next : read_back x +ℤ pos 1 ≡ neg_ℤ (pos n)
-  next = ap (λ (z : ℤ). z +ℤ pos 1) (read_back_lem f ∙ e) ∙ next_of_negative n
-
-  pub next_fits : SFits w64 (read_back x +ℤ pos 1)
-  next_fits = fits_small _ (rw next (omega (arith, nat_abs_neg (pos n), small)))
-
-  opposite : pos 0 -ℤ read_back (read_back x +ℤ pos 1) ≡ pos n
-  opposite = ap (λ (z : ℤ). pos 0 -ℤ z) (read_back_lem next_fits ∙ next) ∙ ap (λ (z : ℤ). pos 0 +ℤ z) (neg_ℤ-neg_ℤ (pos n)) ∙ +ℤ_idl (pos n)
-
-  pub opposite_fits : SFits w64 (pos 0 -ℤ read_back (read_back x +ℤ pos 1))
-  opposite_fits = fits_small _ (rw opposite small)
-
-  pub opposite_is : read_back (pos 0 -ℤ read_back (read_back x +ℤ pos 1)) ≡ pos n
-  opposite_is = read_back_lem opposite_fits ∙ opposite
-
--- p minus a number below 0
-pub gap_negative : (p : ℕ) (s : ℤ) → lt_z s (pos 0) ≡ true → p + nat_abs s ≡ gap_of p s
-gap_negative p (pos n) e = absurd (omega (arith, ltb-true n 0 e))
-gap_negative p (negsuc n) e = refl
-
 -- p minus n, for a whole number n
 pub gap_positive : (p n : ℕ) → p - n ≡ gap_of p (pos n)
 gap_positive p zero = omega arith
@@ -122,9 +85,6 @@ gap_positive p (suc n) = go (ltb p (suc n)) refl
 -- a sum or a product f of two numbers, as the machine computes it of numbers read back
 pub both_back : (f : ℤ → ℤ → ℤ) {x y : ℤ} → SFits w64 x → SFits w64 y → f (read_back x) (read_back y) ≡ f x y
 both_back f h g = λ i. f (read_back_lem h i) (read_back_lem g i)
-
-pub both_fit : (f : ℤ → ℤ → ℤ) {x y : ℤ} → SFits w64 x → SFits w64 y → nat_abs (f x y) < 2 ^ 63 → SFits w64 (f (read_back x) (read_back y))
-both_fit f h g l = fits_small _ (rw (both_back f h g) l)
 
 pub times_back : (r x y : ℤ) → nat_abs x < 2 ^ 63 → nat_abs y < 2 ^ 63 → r ≡ read_back x *ℤ read_back y → r ≡ x *ℤ y
 times_back r x y h g e = e ∙ both_back ◌*ℤ◌ (fits_small x h) (fits_small y g)

@@ -5,4 +5,3 @@
 pub mod quotient;
 pub mod root;
 pub mod signed;
-pub mod whole;

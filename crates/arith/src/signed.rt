@@ -2,17 +2,6 @@
 ghost use Rattle.std.specs.Prelude.{◌≡◌, ◌+◌, ◌*◌, ◌^◌, ◌<◌, ◌+ℤ◌, ◌-ℤ◌, ◌*ℤ◌, unsigned_abs};
 ghost use Rattle.arith.specs.Signed.{gap_of, signed_by};
 
-// The magnitude of a number.
-pub fn magnitude(x: i64) -> u64
-    ensures { result ≡ unsigned_abs x }
-{
-    if x < 0 {
-        (-(x + 1)) as u64 + 1
-    } else {
-        x as u64
-    }
-}
-
 // The product of two numbers whose magnitudes' product is below 2^63.
 pub fn times(x: i64, y: i64) -> i64
     requires { unsigned_abs x * unsigned_abs y < 2 ^ 63 }
@@ -53,9 +42,5 @@ pub fn gap(p: u64, s: i64) -> u64
     requires { p < 2 ^ 63 }
     ensures { result ≡ gap_of p s }
 {
-    let size = magnitude(s);
-    if s < 0 {
-        return p + size;
-    }
-    if size < p { p - size } else { 0 }
+    p.saturating_sub_signed(s)
 }

@@ -10,11 +10,14 @@
 // lent bytes.
 #![tactic(auto)]
 
+use fields::read_word;
 use machine::lists::LIMITS;
 use say::say;
 use std::io::{Stdin, Stdout};
-use streams::{Input, read_input};
-use values::{BLOCK, WORD, block_at, limits_at, word_at};
+use streams::read_input;
+use tape::limits::write_limits;
+use tape::records::{write_record, write_record_at};
+use values::{BLOCK, WORD, block_at, limits_at};
 
 mod machines;
 mod say;
@@ -28,62 +31,82 @@ const AFTER_BLOCK: usize = VALUES + BLOCK;
 
 const HEAD: usize = VALUES + LIMITS * WORD;
 
-// The call of a case on the lent bytes.
+// A case's call.
+#[derive(Clone, Copy, Debug, PartialEq, Eq, Hash)]
+enum Call {
+    ReadLimits,
+    ReadRecord,
+    WriteLimits,
+    WriteRecord,
+    WriteRecordAt,
+    AskMachine,
+    CheckTape,
+}
+
+impl From<u64> for Call {
+    fn from(kind: u64) -> Call {
+        match kind {
+            0 => Call::ReadLimits,
+            1 => Call::ReadRecord,
+            2 => Call::WriteLimits,
+            3 => Call::WriteRecord,
+            5 => Call::WriteRecordAt,
+            6 => Call::AskMachine,
+            _ => Call::CheckTape,
+        }
+    }
+}
+
+// Makes the call of a case on the lent bytes.
 fn answer(output: Stdout, head: &[u8; HEAD], bytes: &mut [u8]) {
-    let kind = word_at(head, 0);
-    if kind == 2 {
-        tapes::write_limits(output, limits_at(head, VALUES), bytes);
-        return;
+    match Call::from(read_word(head, 0)) {
+        Call::ReadLimits => tapes::read_limits(output, bytes),
+        Call::ReadRecord => tapes::read_record(output, bytes),
+        Call::WriteLimits => {
+            let l = limits_at(head, VALUES);
+            tapes::write(output, bytes, |bytes| write_limits(l, bytes));
+        }
+        Call::WriteRecord => {
+            let b = block_at(head, VALUES);
+            tapes::write(output, bytes, |bytes| write_record(b, bytes));
+        }
+        Call::WriteRecordAt => {
+            let b = block_at(head, VALUES);
+            let k = read_word(head, AFTER_BLOCK) as usize;
+            tapes::write(output, bytes, |bytes| write_record_at(b, bytes, k));
+        }
+        Call::AskMachine => machines::ask(output, limits_at(head, VALUES), bytes),
+        Call::CheckTape => tapes::check_tape(output, bytes),
     }
-    if kind == 3 {
-        tapes::write_record(output, block_at(head, VALUES), bytes);
-        return;
-    }
-    if kind == 5 {
-        tapes::write_record_at(
-            output,
-            block_at(head, VALUES),
-            bytes,
-            word_at(head, AFTER_BLOCK) as usize,
-        );
-        return;
-    }
-    if kind == 6 {
-        machines::ask(output, limits_at(head, VALUES), bytes);
-        return;
-    }
-    tapes::answer_read(output, kind, bytes);
 }
 
 // Stores the next m bytes of the input at the beginning of the buffer.
 fn fill(input: Stdin, m: usize, buffer: &mut [u8]) {
-    if m <= buffer.len() {
-        read_input(input, &mut buffer[..m]);
+    if let Some(bytes) = buffer.get_mut(..m) {
+        let _ = read_input(input, bytes);
     }
 }
 
 // Lends the first n bytes of the buffer to the call of a case.
 fn lend(output: Stdout, n: usize, head: &[u8; HEAD], buffer: &mut [u8]) {
-    if n <= buffer.len() {
-        answer(output, head, &mut buffer[..n]);
+    if let Some(bytes) = buffer.get_mut(..n) {
+        answer(output, head, bytes);
     }
 }
 
 fn run_case(input: Stdin, output: Stdout, head: &[u8; HEAD], buffer: &mut [u8; 65_536]) {
-    fill(input, word_at(head, 2 * WORD) as usize, buffer);
-    lend(output, word_at(head, WORD) as usize, head, buffer);
+    fill(input, read_word(head, 2 * WORD) as usize, buffer);
+    lend(output, read_word(head, WORD) as usize, head, buffer);
     say(output, b"\n");
 }
 
 fn main(rt: HostRuntime) {
     let mut buffer = [0u8; 65_536];
-    let mut turns: u64 = 1_000_000;
-    while 0 < turns {
+    for _ in 0..1_000_000 {
         let mut head = [0u8; HEAD];
-        let Input::Bytes(HEAD) = read_input(rt.stdin(), &mut head) else {
+        let Ok(HEAD) = read_input(rt.stdin(), &mut head) else {
             return;
         };
         run_case(rt.stdin(), rt.stdout(), &head, &mut buffer);
-        turns -= 1;
     }
 }

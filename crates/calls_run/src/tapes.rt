@@ -1,10 +1,10 @@
 // The tape's calls: limits and records read and written, and a whole tape checked.
-use crate::say::{say, say_bytes, say_next, say_refusal, say_signed};
-use display::Checked;
+use crate::say::{say, say_answer, say_bytes, say_next, say_refusal};
+use display::{Refusal, RefusedAt};
 use machine::{Axes, Block, Limits};
 use std::io::Stdout;
-use tape::{LimitsRead, RecordRead, TapeCheck};
 
+// Printed field by field, since the types are other crates', which know no text.
 fn say_axes(output: Stdout, a: Axes) {
     say_next(output, a.x);
     say_next(output, a.y);
@@ -22,70 +22,45 @@ fn say_limits(output: Stdout, l: Limits) {
 
 fn say_block(output: Stdout, b: Block) {
     say(output, b"record");
-    say_signed(output, b.x);
-    say_signed(output, b.y);
-    say_signed(output, b.z);
+    say_next(output, b.x);
+    say_next(output, b.y);
+    say_next(output, b.z);
     say_next(output, b.feed);
     say_next(output, b.radius);
     say_next(output, b.mark);
 }
 
-fn say_written(output: Stdout, answer: Checked, bytes: &[u8]) {
-    match answer {
-        Checked::Passed => say(output, b"written"),
-        Checked::Refused(why) => say_refusal(output, why),
-    }
+// Writes to the lent bytes, and says what that answered and all bytes as they then are.
+pub(crate) fn write<F: FnOnce(&mut [u8]) -> Result<(), Refusal>>(
+    output: Stdout,
+    bytes: &mut [u8],
+    store: F,
+)
+    requires { F.IsAlwaysCallable store }
+{
+    let answer = store(bytes);
+    say_answer(output, answer, |output, _| say(output, b"written"));
     say_bytes(output, bytes);
 }
 
-fn say_check(output: Stdout, answer: TapeCheck) {
-    match answer {
-        TapeCheck::Accepted(n) => {
+pub(crate) fn read_limits(output: Stdout, bytes: &[u8]) {
+    say_answer(output, tape::limits::read_limits(bytes), say_limits);
+}
+
+pub(crate) fn read_record(output: Stdout, bytes: &[u8]) {
+    say_answer(output, tape::records::read_record(bytes), say_block);
+}
+
+pub(crate) fn check_tape(output: Stdout, bytes: &[u8]) {
+    match tape::whole::check_tape(bytes) {
+        Ok(n) => {
             say(output, b"accepted");
-            say_next(output, n as u64);
+            say_next(output, n);
         }
-        TapeCheck::Refused(why, place) => {
+        Err(RefusedAt { why, place }) => {
             say_refusal(output, why);
             say(output, b" at");
-            say_next(output, place as u64);
+            say_next(output, place);
         }
-    }
-}
-
-fn read_limits(output: Stdout, bytes: &[u8]) {
-    match tape::limits::read_limits(bytes) {
-        LimitsRead::Read(l) => say_limits(output, l),
-        LimitsRead::Refused(why) => say_refusal(output, why),
-    }
-}
-
-fn read_record(output: Stdout, bytes: &[u8]) {
-    match tape::records::read_record(bytes) {
-        RecordRead::Read(b) => say_block(output, b),
-        RecordRead::Refused(why) => say_refusal(output, why),
-    }
-}
-
-pub(crate) fn write_limits(output: Stdout, l: Limits, bytes: &mut [u8]) {
-    let answer = tape::limits::write_limits(l, bytes);
-    say_written(output, answer, bytes);
-}
-
-pub(crate) fn write_record(output: Stdout, b: Block, bytes: &mut [u8]) {
-    let answer = tape::records::write_record(b, bytes);
-    say_written(output, answer, bytes);
-}
-
-pub(crate) fn write_record_at(output: Stdout, b: Block, bytes: &mut [u8], k: usize) {
-    let answer = tape::records::write_record_at(b, bytes, k);
-    say_written(output, answer, bytes);
-}
-
-// The call of a case that only reads the lent bytes: kind 0 reads limits, 1 a record, any other checks a whole tape.
-pub(crate) fn answer_read(output: Stdout, kind: u64, bytes: &[u8]) {
-    match kind {
-        0 => read_limits(output, bytes),
-        1 => read_record(output, bytes),
-        _ => say_check(output, tape::whole::check_tape(bytes)),
     }
 }

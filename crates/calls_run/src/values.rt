@@ -13,14 +13,7 @@ pub(crate) const WORD: usize = 8;
 
 pub(crate) const BLOCK: usize = (MOVES + FIELDS) * WORD;
 
-// The word that begins at a byte.
-pub(crate) fn word_at(bytes: &[u8], at: usize) -> u64
-    requires { at + 8 ≤ length bytes.now }
-{
-    read_word(bytes, at)
-}
-
-// The signed number that it stands for.
+// The bytes and a place in them are two values, as `fields` takes them. The signed number that the word at a byte stands for.
 fn signed_at(bytes: &[u8], at: usize) -> i64
     requires { at + 8 ≤ length bytes.now }
 {
@@ -32,9 +25,9 @@ fn axes_at(bytes: &[u8], at: usize) -> Axes
     requires { at + 24 ≤ length bytes.now }
 {
     Axes {
-        x: word_at(bytes, at),
-        y: word_at(bytes, at + WORD),
-        z: word_at(bytes, at + 2 * WORD),
+        x: read_word(bytes, at),
+        y: read_word(bytes, at + WORD),
+        z: read_word(bytes, at + 2 * WORD),
     }
 }
 
@@ -45,9 +38,9 @@ pub(crate) fn limits_at(bytes: &[u8], at: usize) -> Limits
     Limits {
         accel: axes_at(bytes, at),
         speed: axes_at(bytes, at + 3 * WORD),
-        jump: word_at(bytes, at + 6 * WORD),
-        chord: word_at(bytes, at + 7 * WORD),
-        tick: word_at(bytes, at + 8 * WORD),
+        jump: read_word(bytes, at + 6 * WORD),
+        chord: read_word(bytes, at + 7 * WORD),
+        tick: read_word(bytes, at + 8 * WORD),
     }
 }
 
@@ -59,8 +52,8 @@ pub(crate) fn block_at(bytes: &[u8], at: usize) -> Block
         signed_at(bytes, at),
         signed_at(bytes, at + WORD),
         signed_at(bytes, at + 2 * WORD),
-        word_at(bytes, at + 3 * WORD),
-        word_at(bytes, at + 4 * WORD),
-        word_at(bytes, at + 5 * WORD),
+        read_word(bytes, at + 3 * WORD),
+        read_word(bytes, at + 4 * WORD),
+        read_word(bytes, at + 5 * WORD),
     )
 }

@@ -4,7 +4,6 @@ use mathlib.Core.List.{List, ◌∷◌, []}
 use mathlib.Core.Path.{◌≡◌, refl}
 use Prim.Native.Nat.{ℕ}
 use borrow.Author.Tests.{eqb-true}
-use native.Mathlib.Omega.{arith}
 use lib.Dec.{eqb}
 use Rattle.arith.specs.Root.{root_of, root_by_digits, next_root}
 use Rattle.arith.specs.Quotient.{capped_quotient}
@@ -26,14 +25,11 @@ same [] (y ∷ t) = false
 same (x ∷ s) [] = false
 same (x ∷ s) (y ∷ t) = eqb x y && same s t
 
-differ : false ≡ true → ⊥
-differ p = let z : ◌≡◌ {A = ℕ} 0 1 = cc in omega arith
-
 same_true : (s t : List ℕ) → same s t ≡ true → s ≡ t
 unfolding same
 same_true [] [] e = refl
-same_true [] (y ∷ t) e = absurd (differ e)
-same_true (x ∷ s) [] e = absurd (differ e)
+same_true [] (y ∷ t) e = cc
+same_true (x ∷ s) [] e = cc
 same_true (x ∷ s) (y ∷ t) e = let h = both (eqb x y) (same s t) e in λ i. eqb-true x y h.0 i ∷ same_true s t h.1 i
 
 -- every case of a table computes to its numbers

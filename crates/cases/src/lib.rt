@@ -3,25 +3,24 @@
 #![tactic(auto)]
 
 ghost use Rattle.std.specs.Prelude.{◌≡◌};
-ghost use Rattle.cases.specs.Shop.{limits_m};
+ghost use Rattle.cases.specs.Shop.{every, limits_m};
 
 use machine::{Axes, Limits};
+
+// The same on every axis.
+fn every(n: u64) -> Axes
+    ensures { result ≡ every n }
+{
+    Axes { x: n, y: n, z: n }
+}
 
 // The limits of machine M of document 01, "Proof cases".
 pub fn limits_m() -> Limits
     ensures { result ≡ limits_m }
 {
     Limits {
-        accel: Axes {
-            x: 200_000,
-            y: 200_000,
-            z: 200_000,
-        },
-        speed: Axes {
-            x: 1_000_000,
-            y: 1_000_000,
-            z: 1_000_000,
-        },
+        accel: every(200_000),
+        speed: every(1_000_000),
         jump: 2_000,
         chord: 1,
         tick: 2_000,

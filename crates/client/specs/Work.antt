@@ -6,7 +6,7 @@ use Rattle.machine.specs.Torque.{machine_of}
 use Rattle.machine.specs.declared.Block.{Block}
 use Rattle.machine.specs.declared.Limits.{Limits}
 use Rattle.machine.specs.declared.Ramp.{Ramp}
-use Rattle.line.specs.Answers.{add_means, show_means, take_means}
+use Rattle.line.specs.Answers.{done_means, take_means}
 use Rattle.line.specs.Demand.{Demand3}
 use Rattle.line.specs.declared.Given.{Given}
 use Rattle.line.specs.Blocks.{Line, Call, add, take, fresh_line, line_after}
@@ -32,7 +32,7 @@ pair_calls a b = add a ∷ add b ∷ take ∷ []
 abbrev pub PairDemand3 : Limits → (loaded : List ℕ) (a b : Block) → Answered → (lent left : List ℕ) → Type 0
 PairDemand3 l loaded a b r lent left =
     checked_means r.made ≡ 0
-    → Demand3 (machine_of l loaded) (pair_calls a b) (add_means r.first ∷ add_means r.second ∷ take_means r.third ∷ []) r.told lent (show_means r.shown) left
+    → Demand3 (machine_of l loaded) (pair_calls a b) (done_means r.first ∷ done_means r.second ∷ take_means r.third ∷ []) r.told lent (done_means r.shown) left
 
 -- the ramp of a block of the right-angle pair
 pub record Ramps (r : Ramp) (up down : ℕ) : Type 0 where

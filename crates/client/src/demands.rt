@@ -12,6 +12,7 @@ ghost use Rattle.fullerecru.specs.Planners.{ExportedDemand3};
 ghost use Rattle.client.specs.Work.{PairDemand3, pair_calls};
 
 use crate::{Answered, Returned};
+use display::RefusedAt;
 use fullerecru::planners::{
     fullerecru_add, fullerecru_fresh, fullerecru_shown, fullerecru_take, fullerecru_told,
 };
@@ -20,7 +21,6 @@ use machine::blocks::MOVES;
 use machine::lists::LIMITS;
 use machine::{Block, Limits};
 use planner::{NUMBERS, Planner};
-use tapeplan::TapePlanned;
 use tapeplan::whole::plan_tape;
 
 // In lent memory, whatever it holds.
@@ -41,12 +41,12 @@ pub fn in_memory(
     let told = planner::told(memory);
     let shown = planner::shown(memory, list);
     Answered {
-        made: made,
-        first: first,
-        second: second,
-        third: third,
-        told: told,
-        shown: shown,
+        made,
+        first,
+        second,
+        third,
+        told,
+        shown,
     }
 }
 
@@ -55,26 +55,18 @@ pub fn by_value(l: Limits, steps: &[u8], a: Block, b: Block, list: &mut [u64]) -
     ensures { PairDemand3 l steps.now a b result list.old list.new }
 {
     let fresh = Planner::fresh(l, steps);
-    let planner = fresh.planner;
-    let one = planner.add(a);
-    let held = one.planner;
-    let two = held.add(b);
-    let both = two.planner;
-    let out = both.take();
-    let left = out.planner;
-    let told = left.told();
-    let shown = left.shown(list);
-    let made = fresh.answer;
-    let first = one.answer;
-    let second = two.answer;
-    let third = out.answer;
+    let one = fresh.planner.add(a);
+    let two = one.planner.add(b);
+    let out = two.planner.take();
+    let told = out.planner.told();
+    let shown = out.planner.shown(list);
     Answered {
-        made: made,
-        first: first,
-        second: second,
-        third: third,
-        told: told,
-        shown: shown,
+        made: fresh.answer,
+        first: one.answer,
+        second: two.answer,
+        third: out.answer,
+        told,
+        shown,
     }
 }
 
@@ -98,17 +90,17 @@ pub fn for_c(
     let told = fullerecru_told(memory);
     let shown = fullerecru_shown(memory, list);
     Returned {
-        made: made,
-        first: first,
-        second: second,
-        third: third,
-        told: told,
-        shown: shown,
+        made,
+        first,
+        second,
+        third,
+        told,
+        shown,
     }
 }
 
 // Of a tape that is accepted, with steps that are, in a list one longer than its blocks.
-pub fn of_tape(tape: &[u8], steps: &[u8], list: &mut [u64]) -> TapePlanned
+pub fn of_tape(tape: &[u8], steps: &[u8], list: &mut [u64]) -> Result<(), RefusedAt>
     ensures { tape_refusal tape.now ≡ 0 → steps_refusal steps.now ≡ 0 → length list.old ≡ records_in tape.now + 1 → TapeDemand3 tape.now steps.now list.new result }
 {
     plan_tape(tape, steps, list)

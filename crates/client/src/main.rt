@@ -6,9 +6,9 @@ ghost use Rattle.std.specs.Prelude.{true, ◌≡◌};
 ghost use Rattle.client.specs.Work.{Gives, Ramps, block_of};
 
 use cases::limits_m;
-use display::Checked;
+use display::Refusal;
+use line::Given;
 use line::lists::GIVEN;
-use line::{AddAnswer, Given, ShowAnswer, TakeAnswer};
 use machine::blocks::{MOVES, plain_block};
 use machine::{Block, Ramp};
 use planner::{NUMBERS, Planner};
@@ -17,18 +17,18 @@ mod demands;
 mod hosted;
 
 // What a fresh planner, two adds, a take, told and shown answered.
-#[derive(Clone, Copy)]
+#[derive(Clone, Copy, Debug, PartialEq, Eq, Hash)]
 pub struct Answered {
-    pub made: Checked,
-    pub first: AddAnswer,
-    pub second: AddAnswer,
-    pub third: TakeAnswer,
+    pub made: Result<(), Refusal>,
+    pub first: Result<(), Refusal>,
+    pub second: Result<(), Refusal>,
+    pub third: Result<Given, Refusal>,
     pub told: u64,
-    pub shown: ShowAnswer,
+    pub shown: Result<(), Refusal>,
 }
 
-// The same as numbers on the display, from the functions for C.
-#[derive(Clone, Copy)]
+// The same as numbers on the display, from the functions for C, which return no `Result`.
+#[derive(Clone, Copy, Debug, PartialEq, Eq, Hash)]
 pub struct Returned {
     pub made: u64,
     pub first: u64,
@@ -59,26 +59,21 @@ fn expect_ramp(ramp: Ramp, up: u64, down: u64)
 fn expect_given(g: Given, mark: u64, entry: u64, exit: u64, up: u64, down: u64)
     requires { Gives g mark entry exit up down }
 {
-    let b = g.block;
-    check::expect(b.mark == mark);
+    check::expect(g.block.mark == mark);
     check::expect(g.length == 1_000);
     check::expect(g.accel == 200_000);
     check::expect(g.entry == entry);
     check::expect(g.exit == exit);
-    let ramp = g.ramp;
-    expect_ramp(ramp, up, down);
+    expect_ramp(g.ramp, up, down);
 }
 
 // Two blocks straight on: the plan is 0, 400,000,000, 0.
 fn two_blocks() {
     let made = Planner::fresh(limits_m(), b"");
-    let fresh = made.planner;
-    let one = fresh.add(block(1_000, 0, 0));
-    let held = one.planner;
-    let two = held.add(block(1_000, 0, 0));
-    let both = two.planner;
+    let one = made.planner.add(block(1_000, 0, 0));
+    let two = one.planner.add(block(1_000, 0, 0));
     let mut list = [7u64; 3];
-    both.shown(&mut list);
+    let _ = two.planner.shown(&mut list);
     check::expect(list[0] == 0);
     check::expect(list[1] == 400_000_000);
     check::expect(list[2] == 0);
@@ -87,40 +82,30 @@ fn two_blocks() {
 // The right-angle pair, marks 7 and 8: each block is given out with its speeds and its ramp.
 fn right_angle() {
     let made = Planner::fresh(limits_m(), b"");
-    let fresh = made.planner;
-    let one = fresh.add(block(1_000, 0, 7));
-    let held = one.planner;
-    let two = held.add(block(0, 1_000, 8));
-    let both = two.planner;
-    let first = both.take();
-    let left = first.planner;
-    let second = left.take();
-    let before = first.answer;
-    match before {
-        TakeAnswer::Given(g) => expect_given(g, 7, 0, 2_000_000, 502, 498),
-        TakeAnswer::Refused(_) => check::expect(false),
+    let one = made.planner.add(block(1_000, 0, 7));
+    let two = one.planner.add(block(0, 1_000, 8));
+    let first = two.planner.take();
+    let second = first.planner.take();
+    match first.answer {
+        Ok(g) => expect_given(g, 7, 0, 2_000_000, 502, 498),
+        Err(_) => check::expect(false),
     }
-    let after = second.answer;
-    match after {
-        TakeAnswer::Given(g) => expect_given(g, 8, 2_000_000, 0, 497, 503),
-        TakeAnswer::Refused(_) => check::expect(false),
+    match second.answer {
+        Ok(g) => expect_given(g, 8, 2_000_000, 0, 497, 503),
+        Err(_) => check::expect(false),
     }
 }
 
 // A block that does not move is refused, and the number told stays as it was.
 fn refused_still() {
     let made = Planner::fresh(limits_m(), b"");
-    let fresh = made.planner;
-    let one = fresh.add(block(1_000, 0, 0));
-    let held = one.planner;
-    let none = held.add(block(0, 0, 0));
-    let answer = none.answer;
-    match answer {
-        AddAnswer::Added => check::expect(false),
-        AddAnswer::Refused(why) => check::expect(display::refusal_number(why) == 2),
+    let one = made.planner.add(block(1_000, 0, 0));
+    let none = one.planner.add(block(0, 0, 0));
+    match none.answer {
+        Ok(()) => check::expect(false),
+        Err(why) => check::expect(display::refusal_number(why) == 2),
     }
-    let same = none.planner;
-    check::expect(same.told() == 1);
+    check::expect(none.planner.told() == 1);
 }
 
 // An add to any planner in lent memory. Returns whether it was refused: then every number of the
@@ -128,22 +113,17 @@ fn refused_still() {
 fn was_refused(memory: &mut [u64; NUMBERS], b: Block) -> bool
     ensures { result ≡ true → memory.new ≡ memory.old }
 {
-    match planner::add(memory, b) {
-        AddAnswer::Added => false,
-        AddAnswer::Refused(_) => true,
-    }
+    planner::add(memory, b).is_err()
 }
 
 // A list as long as the blocks is one too short: 11, and it holds what it held.
 fn short_list() {
     let made = Planner::fresh(limits_m(), b"");
-    let fresh = made.planner;
-    let one = fresh.add(block(1_000, 0, 0));
-    let held = one.planner;
+    let one = made.planner.add(block(1_000, 0, 0));
     let mut list = [7u64; 1];
-    match held.shown(&mut list) {
-        ShowAnswer::Shown => check::expect(false),
-        ShowAnswer::Refused(why) => check::expect(display::refusal_number(why) == 11),
+    match one.planner.shown(&mut list) {
+        Ok(()) => check::expect(false),
+        Err(why) => check::expect(display::refusal_number(why) == 11),
     }
     check::expect(list[0] == 7);
 }
@@ -167,7 +147,7 @@ fn demanded(memory: &mut [u64; NUMBERS]) {
         block(0, 1_000, 8),
         &mut list,
     );
-    demands::of_tape(b"", &steps, &mut list);
+    let _ = demands::of_tape(b"", &steps, &mut list);
     demanded_for_c(memory, &steps, &mut list);
 }
 

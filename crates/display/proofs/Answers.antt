@@ -6,8 +6,7 @@ use mathlib.Core.Bool.{Bool, true, false, cond}
 use Rattle.display.specs.Display.{refusal_number, checked_means, by_number, ◌then◌, given, refused, or_refused}
 use Rattle.display.specs.declared.Refusal.{Refusal}
 use Rattle.display.specs.declared.Refusal.TheVariants as why
-use Rattle.display.specs.declared.Checked.{Checked}
-use Rattle.display.specs.declared.Checked.TheVariants.{Passed, Refused}
+use Rattle.std.specs.Prelude.{⊤, Result, Ok, Err}
 
 -- Every refusal has a number above 0.
 pub refusal_above : (r : Refusal) → 0 < refusal_number r
@@ -83,22 +82,22 @@ pub refuses_by : {What : Type 0} (a : What) (r : Refusal) {n : ℕ} → n ≡ re
 refuses_by a r {n} e = let h : 0 < n = rw e (refusal_above r) in refuses a n h (sym e)
 
 -- The number of a check's answer that is known.
-pub told_refused : {r : Checked} {w : Refusal} {n : ℕ} → r ≡ Refused w → checked_means r ≡ n → n ≡ refusal_number w
+pub told_refused : {r : Result ⊤ Refusal} {w : Refusal} {n : ℕ} → r ≡ Err w → checked_means r ≡ n → n ≡ refusal_number w
 told_refused e h = sym h ∙ ap checked_means e
 
-pub told_passed : {r : Checked} {n : ℕ} → r ≡ Passed → checked_means r ≡ n → n ≡ 0
+pub told_passed : {r : Result ⊤ Refusal} {n : ℕ} → r ≡ Ok tt → checked_means r ≡ n → n ≡ 0
 told_passed e h = sym h ∙ ap checked_means e
 
 -- A check that refused decides,
-pub refused_first : {r : Checked} {w : Refusal} (n m : ℕ) → r ≡ Refused w → checked_means r ≡ n → refusal_number w ≡ n then m
+pub refused_first : {r : Result ⊤ Refusal} {w : Refusal} (n m : ℕ) → r ≡ Err w → checked_means r ≡ n → refusal_number w ≡ n then m
 refused_first {w = w} n m e h = let k = told_refused e h in sym (then_first m (rw k (refusal_above w)) ∙ k)
 
-pub refused_answer : {A : Type 0} {r : Checked} {w : Refusal} (n : ℕ) (a : A) → r ≡ Refused w → checked_means r ≡ n → refused (refusal_number w) ≡ or_refused n a
+pub refused_answer : {A : Type 0} {r : Result ⊤ Refusal} {w : Refusal} (n : ℕ) (a : A) → r ≡ Err w → checked_means r ≡ n → refused (refusal_number w) ≡ or_refused n a
 refused_answer {w = w} n a e h = refuses_by a w (told_refused e h)
 
 -- and one that passed leaves it to what follows.
-pub passed_first : {r : Checked} (n m : ℕ) → r ≡ Passed → checked_means r ≡ n → m ≡ n then m
+pub passed_first : {r : Result ⊤ Refusal} (n m : ℕ) → r ≡ Ok tt → checked_means r ≡ n → m ≡ n then m
 passed_first n m e h = sym (then_second (told_passed e h) refl)
 
-pub passed_answer : {A : Type 0} {r : Checked} (n : ℕ) (a : A) → r ≡ Passed → checked_means r ≡ n → given a ≡ or_refused n a
+pub passed_answer : {A : Type 0} {r : Result ⊤ Refusal} (n : ℕ) (a : A) → r ≡ Ok tt → checked_means r ≡ n → given a ≡ or_refused n a
 passed_answer n a e h = gives a n (told_passed e h) refl

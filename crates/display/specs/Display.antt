@@ -1,10 +1,9 @@
 -- Document 01, "Numbers on the display": the number of each refusal, and how checks in turn come to one answer. What a case of
 -- an enum means is given by the definition `..Means` of that enum, here and in every crate above.
-use Rattle.std.specs.Prelude.{ℕ, zero, suc}
+use Rattle.std.specs.Prelude.{ℕ, zero, suc, ⊤, Result, Ok, Err}
 use Rattle.display.specs.declared.Refusal.{Refusal}
 use Rattle.display.specs.declared.Refusal.TheVariants as why
-use Rattle.display.specs.declared.Checked.{Checked}
-use Rattle.display.specs.declared.Checked.TheVariants.{Passed, Refused}
+use Rattle.display.specs.declared.RefusedAt.{RefusedAt}
 
 -- the number on the display of each refusal
 abbrev pub refusal_number : Refusal → ℕ
@@ -26,9 +25,9 @@ refusal_number why.NotFinite = 15
 refusal_number why.Beyond = 16
 
 -- a check's answer is a number; 0 says that it passed
-abbrev pub checked_means : Checked → ℕ
-checked_means Passed = 0
-checked_means (Refused r) = refusal_number r
+abbrev pub checked_means : Result ⊤ Refusal → ℕ
+checked_means (Ok _) = 0
+checked_means (Err why) = refusal_number why
 
 -- the first of two where the number n on the display is 0, which says that nothing is refused, else the second
 abbrev pub by_number : {A : Type 0} → (n : ℕ) → A → A → A
@@ -49,6 +48,11 @@ pub data Outcome (Why What : Type 0) : Type 0 where
 abbrev pub or_refused : {A : Type 0} → (n : ℕ) → A → Outcome ℕ A
 or_refused n a = by_number n (given a) (refused n)
 
+-- what a function answers, by the number of its refusal
+abbrev pub outcome_of : {A : Type 0} → Result A Refusal → Outcome ℕ A
+outcome_of (Ok a) = given a
+outcome_of (Err why) = refused (refusal_number why)
+
 -- a refusal of a list of things: its number, where 0 says that nothing is refused, and the place from 1 of the one at fault, or 0
 pub record Fault : Type 0 where
   pub number : ℕ
@@ -62,3 +66,12 @@ n at p = record { number = n; place = p }
 infixr 5 ◌else◌
 abbrev pub ◌else◌ : Fault → Fault → Fault
 f else g = by_number f.number g f
+
+-- a refusal with its place, by its number
+abbrev pub fault_of : RefusedAt → Fault
+fault_of r = refusal_number r.why at r.place
+
+-- what a function on a list of things answers, by the number and the place of its refusal
+abbrev pub placed_outcome_of : {A : Type 0} → Result A RefusedAt → Outcome Fault A
+placed_outcome_of (Ok a) = given a
+placed_outcome_of (Err r) = refused (fault_of r)

@@ -4,74 +4,64 @@
 ghost use Rattle.std.specs.Prelude.{◌≡◌};
 ghost use Rattle.display.specs.Display.{checked_means, refusal_number, ◌then◌};
 
-// Why a call is refused, by the word on the display.
-#[derive(Clone, Copy)]
+// Why a call is refused, by the word on the display, with its number there.
+#[derive(Clone, Copy, Debug, PartialEq, Eq, Hash)]
 pub enum Refusal {
-    Limits,
-    Still,
-    Long,
-    Feed,
-    Radius,
-    Mark,
-    Full,
-    Empty,
-    Ragged,
-    Many,
-    List,
-    Word,
-    Number,
-    Steps,
-    NotFinite,
-    Beyond,
+    Limits = 1,
+    Still = 2,
+    Long = 3,
+    Feed = 4,
+    Radius = 5,
+    Mark = 6,
+    Full = 7,
+    Empty = 8,
+    Ragged = 9,
+    Many = 10,
+    List = 11,
+    Word = 12,
+    Number = 13,
+    Steps = 14,
+    NotFinite = 15,
+    Beyond = 16,
 }
 
-// The answer of a check.
-#[derive(Clone, Copy)]
-pub enum Checked {
-    Passed,
-    Refused(Refusal),
+// Why a list of things is refused: the refusal, and the place from 1 of the one at fault, 0 where none of them is: the
+// place is written as it stands, and 0 is the sign for none.
+#[derive(Clone, Copy, Debug, PartialEq, Eq, Hash)]
+pub struct RefusedAt {
+    pub why: Refusal,
+    pub place: usize,
 }
 
-// The number on the display.
+// The number on the display. A function and no `From`, as the next: contracts and callers name them.
 pub fn refusal_number(why: Refusal) -> u64
     ensures { result ≡ refusal_number why }
 {
-    match why {
-        Refusal::Limits => 1,
-        Refusal::Still => 2,
-        Refusal::Long => 3,
-        Refusal::Feed => 4,
-        Refusal::Radius => 5,
-        Refusal::Mark => 6,
-        Refusal::Full => 7,
-        Refusal::Empty => 8,
-        Refusal::Ragged => 9,
-        Refusal::Many => 10,
-        Refusal::List => 11,
-        Refusal::Word => 12,
-        Refusal::Number => 13,
-        Refusal::Steps => 14,
-        Refusal::NotFinite => 15,
-        Refusal::Beyond => 16,
-    }
+    why as u64
 }
 
 // The number on the display of a check's answer; 0 says that it passed.
-pub fn checked_number(c: Checked) -> u64
+pub fn checked_number(c: Result<(), Refusal>) -> u64
     ensures { result ≡ checked_means c }
 {
     match c {
-        Checked::Passed => 0,
-        Checked::Refused(why) => refusal_number(why),
+        Ok(()) => 0,
+        Err(why) => refusal_number(why),
     }
 }
 
-// One check and then another: the first of them that refuses.
-pub fn first_refusal(a: Checked, b: Checked) -> Checked
+// A refusal of the whole, of none of its parts.
+impl From<Refusal> for RefusedAt {
+    ghost from_gives = { λ why r. r ≡ record { why = why; place = 0 } };
+
+    fn from(why: Refusal) -> RefusedAt {
+        RefusedAt { why, place: 0 }
+    }
+}
+
+// One check and then another: the first of them that refuses. `Result::and` by its public name.
+pub fn first_refusal(a: Result<(), Refusal>, b: Result<(), Refusal>) -> Result<(), Refusal>
     ensures { checked_means result ≡ (checked_means a then checked_means b) }
 {
-    match a {
-        Checked::Passed => b,
-        Checked::Refused(why) => Checked::Refused(why),
-    }
+    a.and(b)
 }

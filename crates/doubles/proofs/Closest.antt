@@ -1,11 +1,10 @@
--- `closest n d` by what is left of the division: less than half of d, more than half, or half; and that it is the whole number nearest to
--- n / d, an exact half to the even one. From the laws of comparing, of division, and of arith's nearest numbers.
+-- `closest n d` is the whole number nearest to n / d, an exact half to the even one. From the laws of comparing, of division, and of
+-- arith's nearest numbers.
 use mathlib.Core.Path.{◌≡◌, refl, sym, subst, ◌∙◌}
 use mathlib.Core.Bool.{not}
-use Prim.Native.Nat.{ℕ, suc, ◌+◌, ◌-◌, ◌*◌, ◌/◌, ◌%◌, ◌≤◌, ◌<◌, compare, Ordering}
+use Prim.Native.Nat.{ℕ, suc, ◌+◌, ◌*◌, ◌/◌, ◌%◌, ◌≤◌, ◌<◌, compare, Ordering}
 use native.Mathlib.Nat.{lt_of_not-le, mod-lt, mod-eq_of_lt, div-eq_of_lt, div-add-mod', add-mul, suc-mul, mul-le-mul_right}
 use native.Mathlib.Decide.{dec_le}
-use native.Mathlib.Numerals.{add-one}
 use native.Mathlib.Omega.{arith}
 use lib.Dec.{T, is_le, compare_is_eq, eqb, leb→le, nleb→lt, eqb→eq, eqb_refl}
 use lib.Ieee.{nearest}
@@ -38,26 +37,6 @@ module _ (q a b : ℕ) where
       go Ordering.lt t = absurd t
       go Ordering.eq t = refl
       go Ordering.gt t = absurd t
-
--- less than half of the divisor is left, more than half, or half
-module _ (n d : ℕ) (above : 0 < d) where
-  pub closest_down : n % d < d - n % d → n / d ≡ closest n d
-  closest_down h = sym (nearest_less (n / d) (n % d * 2) d (omega arith))
-
-  pub closest_up : d - n % d < n % d → n / d + 1 ≡ closest n d
-  closest_up h = add-one (n / d) ∙ sym (nearest_more (n / d) (n % d * 2) d (omega arith))
-
-  half : d - n % d ≤ n % d → n % d ≤ d - n % d → n / d + n / d % 2 ≡ closest n d
-  half h k = sym (nearest_tie (n / d) (n % d * 2) d (omega (arith, mod-lt n above)))
-
-  pub closest_even : d - n % d ≤ n % d → n % d ≤ d - n % d → n / d % 2 ≡ 0 → n / d ≡ closest n d
-  closest_even h k e = omega (arith, half h k)
-
-  pub closest_odd : d - n % d ≤ n % d → n % d ≤ d - n % d → (n / d % 2 ≡ 0 → ⊥) → n / d + 1 ≡ closest n d
-  closest_odd h k e = omega (arith, half h k, odd (n / d) e)
-    where
-      odd : (q : ℕ) → (q % 2 ≡ 0 → ⊥) → q % 2 ≡ 1
-      odd q e = omega (arith, e)
 
 -- less than half of the divisor is nearest to 0
 pub closest_small : (n d : ℕ) → n * 2 < d → 0 ≡ closest n d

@@ -1,24 +1,25 @@
 -- What the fields of a double's pattern stand for: its magnitude, as the code finds it, and its reading, which is that of the pattern.
 -- From the toolchain's laws of patterns and of values.
 use mathlib.Core.Path.{◌≡◌, refl, sym, ap, subst, ◌∙◌}
-use mathlib.Core.Bool.{Bool, true, false, not, cond}
+use mathlib.Core.Bool.{Bool, true, false, cond}
 use Prim.Native.Nat.{ℕ, zero, suc, ◌+◌, ◌-◌, ◌*◌, ◌/◌, ◌%◌, ◌^◌, ◌≤◌, ◌<◌, min}
-use native.Mathlib.Nat.{le_trans, le_of_eq, lt_of_lt_of_le, le-add_right, min-eq_left, mul_assoc, mul_comm, mul_left_comm, mul_right_comm, mul-one, mul-le-mul_left, ne_of_lt}
+use native.Mathlib.Nat.{le_trans, le_of_eq, le_of_suc-le-suc, lt_of_lt_of_le, le-add_right, min-eq_left, mul_assoc, mul_comm, mul_left_comm, mul_right_comm, mul-one, mul-le-mul_left, ne_of_lt}
 use native.Mathlib.Omega.{arith}
 use borrow.Author.Tests.{eqb-true, eqb-false, le-leb, lt-leb, ne_eqb}
 use lib.Arith.{lt_of_le-ne}
-use lib.Dec.{T, leb, eqb, lit<, lit≤}
+use Rattle.std.specs.Float.{float_is_finite}
+use lib.Dec.{leb, eqb, lit<, lit≤}
 use lib.Pow.{pow_pos, pow_mono, pow-add}
 use lib.IntN.{ℤ, pos, nat_abs}
-use lib.Ieee.{Float, nan, inf, fin, binary64, of_bits, of_fields, odd, ne, is_nan, up, down}
-use lib.Ieee.Compare.{differs_from_itself, nan_differs}
+use lib.Ieee.{Float, nan, inf, fin, binary64, of_bits, of_fields, odd, up, down}
 use lib.Ieee.Exact.{HasValue, odd_sign}
 use lib.Ieee.Fits.{down_pos}
 use lib.Ieee.Nearest.{closest, closest_same, closest_mono}
 use Rattle.arith.specs.Signed.{signed_by}
 use Rattle.arith.proofs.SignedLaws.{nat_abs_neg, read_back, small_back}
 use Rattle.doubles.specs.Readings.{magnitude_of, most_read, pattern_reading, reading_by, reading_of, smallest, units_of}
-use Rattle.doubles.specs.declared.Reading.TheVariants.{NotFinite, Beyond, At}
+use Rattle.std.specs.Prelude.{Ok, Err}
+use Rattle.display.specs.declared.Refusal.TheVariants.{NotFinite, Beyond}
 use Rattle.doubles.proofs.Closest.{closest_small}
 
 -- an exponent's field above 0
@@ -91,11 +92,11 @@ pub reading_fields : (s : Bool) (e t : ℕ) → e < 2047 → reading_of (of_fiel
 reading_fields s e t h = by_value (of_fields binary64 s e t) s (units_of e t) (2 ^ smallest) (pow_pos smallest) (fields_value s e t h)
 
 -- an infinity or a NaN, by its fields
-pub reading_ones : (s : Bool) (e t : ℕ) → e ≡ 2047 → reading_of (of_fields binary64 s e t) ≡ NotFinite
+pub reading_ones : (s : Bool) (e t : ℕ) → e ≡ 2047 → reading_of (of_fields binary64 s e t) ≡ Err NotFinite
 unfolding of_fields reading_of
 reading_ones s e t h = ap (λ (k : ℕ). reading_of (of_fields binary64 s k t)) h ∙ either (eqb t 0)
   where
-    either : (b : Bool) → reading_of (cond b (inf s) nan) ≡ NotFinite
+    either : (b : Bool) → reading_of (cond b (inf s) nan) ≡ Err NotFinite
     either true = refl
     either false = refl
 
@@ -113,32 +114,36 @@ reading_bits b = go (eqb e 2047) refl
     t : ℕ
     t = b % 2 ^ 52
 
-    go : (o : Bool) → eqb e 2047 ≡ o → reading_of (of_fields binary64 s e t) ≡ cond o NotFinite (reading_by s (magnitude_of e t))
+    go : (o : Bool) → eqb e 2047 ≡ o → reading_of (of_fields binary64 s e t) ≡ cond o (Err NotFinite) (reading_by s (magnitude_of e t))
     go true q = reading_ones s e t (eqb-true e 2047 q)
     go false q = reading_fields s e t (lt_of_le-ne (below b) (eqb-false e 2047 q))
       where
         below : (b : ℕ) → b % 2 ^ 63 / 2 ^ 52 ≤ 2047
         below b = omega arith
 
--- only a NaN differs from itself
-pub reading_nan : (x : Float) → ne x x ≡ true → NotFinite ≡ reading_of x
-unfolding reading_of
-reading_nan x h = sym (ap reading_of (differs_from_itself x (subst T (sym h) tt)))
+-- a double that is not finite, and the fields of one that is
+pub reading_infinite : (x : Float) → float_is_finite x ≡ false → Err NotFinite ≡ reading_of x
+unfolding reading_of float_is_finite
+reading_infinite nan h = refl
+reading_infinite (inf s) h = refl
+reading_infinite (fin s m e) h = cc
 
-pub no_nan : (x : Float) → ne x x ≡ false → T (not (is_nan x))
-unfolding is_nan
-no_nan nan h = let z : true ≡ false = sym nan_differs ∙ h in subst T z tt
-no_nan (inf s) h = tt
-no_nan (fin s m e) h = tt
+pub finite_fields : (s : Bool) (e t : ℕ) → float_is_finite (of_fields binary64 s e t) ≡ true → e < 2048 → e < 2047
+unfolding of_fields float_is_finite
+finite_fields s e t f h = lt_of_le-ne (le_of_suc-le-suc h) (λ q. either (eqb t 0) (subst (λ (k : ℕ). float_is_finite (of_fields binary64 s k t) ≡ true) q f))
+  where
+    either : (b : Bool) → float_is_finite (cond b (inf s) nan) ≡ true → ⊥
+    either true g = cc
+    either false g = cc
 
 -- the reading by a magnitude that is cut at one more than the most
-pub reading_beyond : (s : Bool) (n m : ℕ) → n ≡ min (most_read + 1) m → most_read < n → Beyond ≡ reading_by s m
-reading_beyond s n m e h = sym (ap (λ (b : Bool). cond b (At (signed_by s m)) Beyond) (lt-leb m most_read (omega arith)))
+pub reading_beyond : (s : Bool) (n m : ℕ) → n ≡ min (most_read + 1) m → most_read < n → Err Beyond ≡ reading_by s m
+reading_beyond s n m e h = sym (ap (λ (b : Bool). cond b (Ok (signed_by s m)) (Err Beyond)) (lt-leb m most_read (omega arith)))
 
-pub reading_at : (s : Bool) (n m : ℕ) → n ≡ min (most_read + 1) m → n ≤ most_read → At (signed_by s n) ≡ reading_by s m
+pub reading_at : (s : Bool) (n m : ℕ) → n ≡ min (most_read + 1) m → n ≤ most_read → Ok (signed_by s n) ≡ reading_by s m
 reading_at s n m e h =
     let f : n ≡ m = omega arith in
-    ap (λ (x : ℕ). At (signed_by s x)) f ∙ sym (ap (λ (b : Bool). cond b (At (signed_by s m)) Beyond) (le-leb m most_read (omega arith)))
+    ap (λ (x : ℕ). Ok (signed_by s x)) f ∙ sym (ap (λ (b : Bool). cond b (Ok (signed_by s m)) (Err Beyond)) (le-leb m most_read (omega arith)))
 
 -- the number of a magnitude and a sign has that magnitude, and is a number of 64 bits
 pub signed_size : (s : Bool) (n : ℕ) → nat_abs (signed_by s n) ≡ n

@@ -14,7 +14,8 @@ use Rattle.arith.specs.Nearest.{NearestHalfEven}
 use Rattle.arith.specs.Signed.{signed_by}
 use Rattle.arith.proofs.NearestLaws.{half_even_one}
 use Rattle.doubles.specs.Readings.{most_read, reading_by, reading_of, thousandths}
-use Rattle.doubles.specs.declared.Reading.TheVariants.{NotFinite, Beyond, At}
+use Rattle.std.specs.Prelude.{Ok, Err}
+use Rattle.display.specs.declared.Refusal.TheVariants.{NotFinite, Beyond}
 use Rattle.doubles.proofs.Closest.{closest_nearest}
 use Rattle.doubles.proofs.Decoding.{signed_size}
 
@@ -29,35 +30,35 @@ unfolding reading_of
 reading_one s m e n h = ap (reading_by s) (half_even_one (down_pos e) (reading_nearest m e) h)
 
 -- what is read is at most `most_read` either way
-pub reading_within : (x : Float) (z : ℤ) → reading_of x ≡ At z → nat_abs z ≤ most_read
+pub reading_within : (x : Float) (z : ℤ) → reading_of x ≡ Ok z → nat_abs z ≤ most_read
 unfolding reading_of
 reading_within nan z h = let n : ◌≡◌ {A = ℕ} 0 1 = cc in absurd (omega arith)
 reading_within (inf s) z h = let n : ◌≡◌ {A = ℕ} 0 1 = cc in absurd (omega arith)
 reading_within (fin s m e) z h = go (leb (thousandths m e) most_read) refl h
   where
-    go : (t : Bool) → leb (thousandths m e) most_read ≡ t → cond t (At (signed_by s (thousandths m e))) Beyond ≡ At z → nat_abs z ≤ most_read
+    go : (t : Bool) → leb (thousandths m e) most_read ≡ t → cond t (Ok (signed_by s (thousandths m e))) (Err Beyond) ≡ Ok z → nat_abs z ≤ most_read
     go true q h =
         let same : signed_by s (thousandths m e) ≡ z = cc in
         subst (λ (z : ℤ). nat_abs z ≤ most_read) same (omega (arith, signed_size s (thousandths m e), leb-true (thousandths m e) most_read q))
     go false q h = let n : ◌≡◌ {A = ℕ} 0 1 = cc in absurd (omega arith)
 
 -- a finite double is never read as not finite
-pub finite_read : (s : Bool) (m : ℕ) (e : ℤ) → reading_of (fin s m e) ≡ NotFinite → ⊥
+pub finite_read : (s : Bool) (m : ℕ) (e : ℤ) → reading_of (fin s m e) ≡ Err NotFinite → ⊥
 unfolding reading_of
 finite_read s m e h = go (leb (thousandths m e) most_read) h
   where
-    go : (t : Bool) → cond t (At (signed_by s (thousandths m e))) Beyond ≡ NotFinite → ⊥
+    go : (t : Bool) → cond t (Ok (signed_by s (thousandths m e))) (Err Beyond) ≡ Err NotFinite → ⊥
     go true h = let n : ◌≡◌ {A = ℕ} 0 1 = cc in omega arith
     go false h = let n : ◌≡◌ {A = ℕ} 0 1 = cc in omega arith
 
 -- a difference is not finite where the first double is not, and where the second is not: one look at the difference sees all three
-pub difference_finite : (a b : Float) → (reading_of a ≡ NotFinite) ⊎ (reading_of b ≡ NotFinite) → reading_of (sub binary64 a b) ≡ NotFinite
+pub difference_finite : (a b : Float) → (reading_of a ≡ Err NotFinite) ⊎ (reading_of b ≡ Err NotFinite) → reading_of (sub binary64 a b) ≡ Err NotFinite
 unfolding reading_of sub
 difference_finite nan b h = refl
 difference_finite (inf s) nan h = refl
 difference_finite (inf s) (inf t) h = either (beq s (not t))
   where
-    either : (u : Bool) → reading_of (cond u (inf s) nan) ≡ NotFinite
+    either : (u : Bool) → reading_of (cond u (inf s) nan) ≡ Err NotFinite
     either true = refl
     either false = refl
 difference_finite (inf s) (fin t n d) h = refl

@@ -1,20 +1,20 @@
 -- Document 02, Q-5: a double times 1,000, rounded to the nearest whole number, the half to even, exactly from the double's own bits.
 -- A double is the toolchain's `Float`: `nan`, an infinity, or `fin s m e`, which is m × 2 ^ e, below 0 where s is true.
-use Rattle.std.specs.Prelude.{◌≡◌, ℕ, zero, suc, ◌+◌, ◌*◌, ◌/◌, ◌%◌, ◌^◌, ◌<◌, Bool, cond, leb, eqb, Float, ℤ}
+use Rattle.std.specs.Prelude.{◌≡◌, ℕ, zero, suc, ◌+◌, ◌*◌, ◌/◌, ◌%◌, ◌^◌, ◌<◌, Bool, cond, leb, eqb, Float, ℤ, Result, Ok, Err}
 use Rattle.std.specs.Float.{nan, inf, fin, binary64}
 use Rattle.std.specs.Float.Ieee.{of_fields, up, down}
 use Rattle.std.specs.Float.Ieee.Nearest.{closest}
 use Rattle.arith.specs.Signed.{signed_by}
-use Rattle.doubles.specs.declared.Reading.{Reading}
-use Rattle.doubles.specs.declared.Reading.TheVariants.{NotFinite, Beyond, At}
+use Rattle.display.specs.declared.Refusal.{Refusal}
+use Rattle.display.specs.declared.Refusal.TheVariants.{NotFinite, Beyond}
 
 -- the greatest whole number that is read, either way
 abbrev pub most_read : ℕ
 most_read = 1_000_000_000
 
 -- a finite double whose magnitude, times 1,000 and rounded, is n
-abbrev pub reading_by : (negative : Bool) → (n : ℕ) → Reading
-reading_by negative n = cond (leb n most_read) (At (signed_by negative n)) Beyond
+abbrev pub reading_by : (negative : Bool) → (n : ℕ) → Result ℤ Refusal
+reading_by negative n = cond (leb n most_read) (Ok (signed_by negative n)) (Err Beyond)
 
 -- 1,000 × m × 2 ^ e to the nearest whole number, an exact half to the even one: 2 ^ e is the fraction up e / down e, and `closest a b` is
 -- the whole number nearest to a / b (the law `reading_nearest`)
@@ -22,10 +22,10 @@ unfoldable pub thousandths : (m : ℕ) (e : ℤ) → ℕ
 thousandths m e = closest (m * up e * 1000) (down e)
 
 -- what a double is read as
-unfoldable pub reading_of : Float → Reading
+unfoldable pub reading_of : Float → Result ℤ Refusal
 unfolding thousandths
-reading_of nan = NotFinite
-reading_of (inf s) = NotFinite
+reading_of nan = Err NotFinite
+reading_of (inf s) = Err NotFinite
 reading_of (fin s m e) = reading_by s (thousandths m e)
 
 -- the smallest double above 0 is 2 ^ -1074
@@ -43,10 +43,10 @@ magnitude_of exponent digits = closest (units_of exponent digits * 1000) (2 ^ sm
 
 -- the same reading from a pattern of 64 bits: its sign, its exponent's field, 2047 for an infinity or a NaN, and its digits (the law
 -- `reading_bits`)
-unfoldable pub pattern_reading : (bits : ℕ) → Reading
+unfoldable pub pattern_reading : (bits : ℕ) → Result ℤ Refusal
 unfolding units_of
 pattern_reading bits =
-    cond (eqb (bits % 2 ^ 63 / 2 ^ 52) 2047) NotFinite
+    cond (eqb (bits % 2 ^ 63 / 2 ^ 52) 2047) (Err NotFinite)
     (reading_by (leb (2 ^ 63) bits) (magnitude_of (bits % 2 ^ 63 / 2 ^ 52) (bits % 2 ^ 52)))
 
 -- the parts of a double's pattern

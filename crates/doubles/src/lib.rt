@@ -8,20 +8,11 @@ ghost use Rattle.std.specs.Float.Ieee.Nearest.{closest};
 ghost use Rattle.doubles.specs.Readings.{FieldsOf, magnitude_of, most_read, reading_of};
 
 use arith::signed::signed_by;
-use arith::whole::smaller;
-
-// 1,000 times a double, to the nearest whole number, an exact half to the even one.
-#[derive(Clone, Copy)]
-pub enum Reading {
-    // the double is a NaN or an infinity
-    NotFinite,
-    // the whole number is beyond `MOST` either way
-    Beyond,
-    At(i64),
-}
+use display::Refusal;
+use std::cmp::Ordering;
 
 // The parts of a double's pattern.
-#[derive(Clone, Copy)]
+#[derive(Clone, Copy, Debug, PartialEq, Eq, Hash)]
 struct Fields {
     negative: bool,
     // the exponent's field: 0 for a double below the smallest with a leading digit, `ONES` for an infinity or a NaN
@@ -59,7 +50,7 @@ pub fn bits_of(x: f64) -> u64
     requires { T (not (is_nan x)) }
     ensures { result ≡ to_bits binary64 x }
 {
-    f64::to_bits(x)
+    x.to_bits()
 }
 
 // The double of a pattern; every NaN's pattern is the NaN.
@@ -67,7 +58,7 @@ pub fn double_of(bits: u64) -> f64
     ensures { result ≡ of_bits binary64 bits }
 {
     if ONES * LEADING < bits % SIGN {
-        return 0.0 / 0.0;
+        return f64::NAN;
     }
     f64::from_bits(bits)
 }
@@ -93,14 +84,6 @@ fn fields_of(x: f64) -> Fields
     }
 }
 
-// 2 to the power k.
-fn pow2(k: u64) -> u64
-    requires { k < 64 }
-    ensures { result ≡ 2 ^ k }
-{
-    1 << k
-}
-
 // n / p to the nearest whole number, an exact half to the even one.
 fn nearest(n: u64, p: u64) -> u64
     requires { (0 < p) × (n < 2 ^ 63) }
@@ -108,14 +91,11 @@ fn nearest(n: u64, p: u64) -> u64
 {
     let q = n / p;
     let rest = n % p;
-    let up = p - rest;
-    if rest < up {
-        return q;
+    match rest.cmp(&(p - rest)) {
+        Ordering::Less => q,
+        Ordering::Equal => q + q % 2,
+        Ordering::Greater => q + 1,
     }
-    if up < rest {
-        return q + 1;
-    }
-    if q % 2 == 0 { q } else { q + 1 }
 }
 
 // n / 2^k to the nearest whole number, an exact half to the even one. From 2^64 on it is below a half.
@@ -126,7 +106,7 @@ fn nearest_shift(n: u64, k: u64) -> u64
     if 63 < k {
         return 0;
     }
-    nearest(n, pow2(k))
+    nearest(n, 1 << k)
 }
 
 // 1,000 times the magnitude of a finite double, to the nearest whole number; `PAST` where it is beyond `MOST`.
@@ -141,24 +121,21 @@ fn magnitude(exponent: u64, digits: u64) -> u64
         return PAST;
     }
     let n = nearest_shift((LEADING + digits) * TIMES, SMALLEST + 1 - exponent);
-    smaller(PAST, n)
+    PAST.min(n)
 }
 
-// 1,000 times a double, exactly from its bits.
-pub fn read(x: f64) -> Reading
+// 1,000 times a double, exactly from its bits, to the nearest whole number, an exact half to the even one: refused as not finite where the
+// double is a NaN or an infinity, and as beyond where the whole number is more than `MOST` either way.
+pub fn read(x: f64) -> Result<i64, Refusal>
     ensures { result ≡ reading_of x }
 {
-    if x != x {
-        return Reading::NotFinite;
+    if !x.is_finite() {
+        return Err(Refusal::NotFinite);
     }
     let f = fields_of(x);
-    let exponent = f.exponent;
-    if exponent == ONES {
-        return Reading::NotFinite;
-    }
-    let n = magnitude(exponent, f.digits);
+    let n = magnitude(f.exponent, f.digits);
     if MOST < n {
-        return Reading::Beyond;
+        return Err(Refusal::Beyond);
     }
-    Reading::At(signed_by(f.negative, n))
+    Ok(signed_by(f.negative, n))
 }

@@ -1,7 +1,7 @@
 -- Bytes and the number that they write. From the definitions and the laws of powers.
 use mathlib.Core.Path.{◌≡◌, refl, sym, ap, ◌∙◌}
 use Prim.Native.Nat.{ℕ, zero, suc, ◌+◌, ◌-◌, ◌*◌, ◌/◌, ◌%◌, ◌^◌, ◌≤◌, ◌<◌}
-use native.Mathlib.Nat.{mod-lt, add-zero, lt_of_lt_of_le, add_assoc, div-add-mod', div-one, mod-mod, le_of_eq}
+use native.Mathlib.Nat.{mod-lt, add-zero, lt_of_lt_of_le, add_assoc, div-add-mod', div-one, mod-mod, le_of_eq, zero-add}
 use native.Mathlib.Omega.{arith}
 use mathlib.Core.List.{List, ◌∷◌, ◌++◌, append_assoc, append-nil, []}
 use lib.ListN.{length, get_or, take, drop, set, length-append, length-drop, take-append-drop, length-replicate, replicate-append-replicate}
@@ -153,17 +153,17 @@ number_add s from m n e f l =
     )
 
 -- One byte more, as a loop reads them; the number so far fits a word where there are at most eight.
-pub number_next : (s : List ℕ) (from i : ℕ) {number byte : ℕ} → number ≡ number_of (take i (drop from s)) → byte ≡ get_or s (from + i) 0
-    → from + i < length s → number * 256 + byte ≡ number_of (take (i + 1) (drop from s))
+pub number_next : (s : List ℕ) (i : ℕ) {number byte : ℕ} → number ≡ number_of (take i s) → byte ≡ get_or s i 0
+    → i < length s → number * 256 + byte ≡ number_of (take (i + 1) s)
 unfolding number_of joined
-number_next s from i e f l =
-    let one : number_of (take 1 (drop (from + i) s)) ≡ get_or s (from + i) 0 = rw (drop-cons s (from + i) 0 l) (omega arith) in
-    number_add s from i 1 e (f ∙ sym one) (omega arith)
+number_next s i e f l =
+    let one : number_of (take 1 (drop (0 + i) s)) ≡ get_or s i 0 = rw (zero-add i, drop-cons s i 0 l) (omega arith) in
+    number_add s 0 i 1 e (f ∙ sym one) (omega arith)
 
-pub next_lt : {s : List ℕ} (from i : ℕ) {number : ℕ} → Bytes s → number ≡ number_of (take i (drop from s)) → from + i < length s → i < 8
-    → number * 256 + get_or s (from + i) 0 < 2 ^ 64
-next_lt {s} from i h e l k =
-    rw (number_next s from i e refl l) (lt_of_lt_of_le (part_lt from (i + 1) h (omega arith)) (pow_mono {i = 8 * (i + 1)} {j = 64} (omega arith)))
+pub next_lt : {s : List ℕ} (i : ℕ) {number : ℕ} → Bytes s → number ≡ number_of (take i s) → i < length s → i < 8
+    → number * 256 + get_or s i 0 < 2 ^ 64
+next_lt {s} i h e l k =
+    rw (number_next s i e refl l) (lt_of_lt_of_le (part_lt 0 (i + 1) h (omega arith)) (pow_mono {i = 8 * (i + 1)} {j = 64} (omega arith)))
 
 -- The lowest byte stands last.
 bytes_last : (n v : ℕ) → 0 < n → bytes_of n v ≡ bytes_of (n - 1) (v / 256) ++ v % 256 ∷ []

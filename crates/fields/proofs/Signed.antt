@@ -1,15 +1,19 @@
 -- Two's complement of any width: `signed_of` and `bits_of` are inverse. From the definitions and the laws of powers.
 use mathlib.Core.Path.{◌≡◌, refl, ap, sym, ◌∙◌}
 use mathlib.Core.Bool.{Bool, true, false, cond}
-use Prim.Native.Nat.{ℕ, zero, suc, ◌+◌, ◌-◌, ◌/◌, ◌%◌, ◌^◌, ◌≤◌, ◌<◌}
-use native.Mathlib.Nat.{mod-lt, mod-mod, mod-eq_of_lt, mod-eq-sub-mod, two-pow-succ, zero-add}
+use Prim.Native.Nat.{ℕ, zero, suc, ◌+◌, ◌-◌, ◌*◌, ◌/◌, ◌%◌, ◌^◌, ◌≤◌, ◌<◌}
+use native.Mathlib.Nat.{mod-lt, mod-mod, mod-eq_of_lt, mod-eq-sub-mod, two-pow-succ, div-add-mod', add-mul}
 use native.Mathlib.Omega.{arith}
 use borrow.Author.Tests.{lt-ltb, le-ltb, ltb-true, ltb-false}
-use lib.Dec.{T, ltb, ltb→lt}
-use lib.Pow.{pow_pos, pow_mono, mod-mod-pow, not_mod}
+use lib.Dec.{ltb}
+use lib.Pow as Pow
+use lib.Pow.{pow_pos, pow_mono, pow-add, mod-mod-pow, shr_lt}
+use mir.Facts.{to_z-of_z}
 use lib.Arith.{comp_comp}
+use mir.Syntax.{w64}
+use mir.Val.{SFits, to_z, of_z}
 use lib.IntN.{ℤ, pos, negsuc, nat_abs, ◌-ℤ◌}
-use lib.Signed.{mag, non_neg, lt_z, ◌<ℤ◌}
+use lib.Signed.{mag}
 use Rattle.fields.specs.Signed.{signed_of, bits_of}
 
 -- The range of `width` bits is `mag z < 2 ^ (width - 1)`, half the power: `mag z` is n both for n and for -(n + 1).
@@ -80,24 +84,30 @@ module _ (width n : ℕ) where
       half true = low_lt
       half false = omega (arith, low_lt)
 
--- The low bits of the bits of an integer in range are its bits in fewer.
-bits_cut : (above width : ℕ) (z : ℤ) → mag z < 2 ^ width → bits_of (above + width) z % 2 ^ width ≡ bits_of width z
+-- The low bits of the bits of an integer are its bits in fewer.
+pub bits_cut : (above width : ℕ) (z : ℤ) → bits_of (above + width) z % 2 ^ width ≡ bits_of width z
 unfolding bits_of
-bits_cut above width (pos n) l = mod-mod-pow n above width
-bits_cut above width (negsuc n) l =
-    let m : n < 2 ^ (above + width) = omega (arith, pow_mono {i = width} {j = above + width} (omega arith)) in
-    let e : 2 ^ (above + width) - suc n ≡ 2 ^ (above + width) - 1 - n = omega arith in
-    let f : 2 ^ width - suc n ≡ 2 ^ width - 1 - n = omega arith in
-    rw (mod-eq_of_lt m, mod-eq_of_lt l, e, f) (not_mod above width l)
+bits_cut above width (pos n) = mod-mod-pow n above width
+bits_cut above width (negsuc n) =
+    let p = 2 ^ width in
+    let m = n % 2 ^ (above + width) in
+    let fits : m < 2 ^ (above + width) = mod-lt n (pow_pos (above + width)) in
+    let low : m % p ≡ n % p = mod-mod-pow n above width in
+    let rest : m % p < p = mod-lt m (pow_pos width) in
+    let high : m / p < 2 ^ above = shr_lt above width fits in
+    let x = 2 ^ above - 1 - m / p in
+    let whole : 2 ^ above ≡ x + (m / p + 1) = omega arith in
+    let e : 2 ^ (above + width) - suc m ≡ x * p + (p - suc (m % p)) =
+    omega (arith, pow-add 2 above width, ap (λ (k : ℕ). k * p) whole, div-add-mod' m p, add-mul x (m / p + 1) p, add-mul (m / p) 1 p) in
+    rw (e, low) (Pow.low x width (omega (arith, low, rest)))
 
 -- So it comes back from its bits in more, as a move from the 64 bits of a word.
 pub cut_back : (whole width : ℕ) (z : ℤ) → 0 < width → width ≤ whole → mag z < 2 ^ (width - 1) → signed_of width (bits_of whole z) ≡ z
 cut_back whole width z p w l =
     let e : whole ≡ whole - width + width = omega arith in
-    let m : mag z < 2 ^ width = omega (arith, halves width p) in
     sym (signed_mod width (bits_of whole z))
     ∙ ap (λ (k : ℕ). signed_of width (bits_of k z % 2 ^ width)) e
-    ∙ ap (signed_of width) (bits_cut (whole - width) width z m)
+    ∙ ap (signed_of width) (bits_cut (whole - width) width z)
     ∙ signed_bits width z p l
 
 -- The difference of two numbers, where it is one and where it is below 0.
@@ -145,50 +155,13 @@ module _ (width : ℕ) {p : ℕ} (e : p ≡ 2 ^ width) where
           ∙ difference_negative (n % p + p / 2 - p) (p - 1 - n % p)
           ∙ sym (signed_high n l)
 
-  pub bits_natural : (z : ℤ) → T (non_neg z) → bits_of width z ≡ nat_abs z % p
-  unfolding bits_of
-  bits_natural (pos n) t = rw e
-  bits_natural (negsuc n) t = absurd t
+-- What std's casts between a word and an integer give.
+pub bits_cast : (z : ℤ) → SFits w64 z → of_z w64 z ≡ bits_of 64 z
+unfolding bits_of
+bits_cast (pos n) f = let m : n % 2 ^ 64 ≡ n = mod-eq_of_lt (omega (arith, f.sfits)) in sym m
+bits_cast (negsuc n) f = let m : n % 2 ^ 64 ≡ n = mod-eq_of_lt (omega (arith, f.sfits)) in ap (λ (k : ℕ). 2 ^ 64 - suc k) (sym m)
 
-  pub bits_negative : {z : ℤ} {n : ℕ} → z ≡ negsuc n → bits_of width z ≡ p - 1 - n % p
-  unfolding bits_of
-  bits_negative {z} {n} f =
-      let g : 2 ^ width - suc (n % 2 ^ width) ≡ 2 ^ width - 1 - n % 2 ^ width = omega arith in
-      rw (e, f, g)
-
--- A whole word, by its halves.
-pub word_low : (n : ℕ) → n < 2 ^ 63 → signed_of 64 n ≡ pos n
-word_low n l =
-    let m : n % 2 ^ 64 ≡ n = mod-eq_of_lt (omega arith) in
-    signed_low 64 {p = 2 ^ 64} refl n (rw m (omega arith)) ∙ ap pos m
-
-pub word_high : (n : ℕ) → 2 ^ 63 ≤ n → n < 2 ^ 64 → signed_of 64 n ≡ negsuc (2 ^ 64 - 1 - n)
-word_high n l h =
-    let m : n % 2 ^ 64 ≡ n = mod-eq_of_lt h in
-    signed_high 64 {p = 2 ^ 64} refl n (rw m (omega arith)) ∙ ap (λ (k : ℕ). negsuc (2 ^ 64 - 1 - k)) m
-
--- The bits of a whole word, by the sign.
-pub word_natural : (z : ℤ) → T (non_neg z) → nat_abs z < 2 ^ 64 → bits_of 64 z ≡ nat_abs z
-word_natural z t l = bits_natural 64 {p = 2 ^ 64} refl z t ∙ mod-eq_of_lt l
-
-pub word_negative : {z : ℤ} {n : ℕ} → z ≡ negsuc n → n < 2 ^ 64 → bits_of 64 z ≡ 2 ^ 64 - 1 - n
-word_negative {z} {n} e l = bits_negative 64 {p = 2 ^ 64} refl e ∙ ap (λ (k : ℕ). 2 ^ 64 - 1 - k) (mod-eq_of_lt l)
-
--- -1 less an integer is its complement.
-pub flip_natural : (n : ℕ) → negsuc 0 -ℤ pos n ≡ negsuc n
-flip_natural zero = refl
-flip_natural (suc n) = ap (λ (k : ℕ). negsuc (suc k)) (zero-add n)
-
-pub flip_negative : (n : ℕ) → negsuc 0 -ℤ negsuc n ≡ pos n
-flip_negative n =
-    let e : suc n - 1 ≡ n = omega arith in
-    rw (le-ltb (suc n) 1 (omega arith), e)
-
--- The sign, from the test that the code makes.
-pub natural_is : (z : ℤ) → lt_z z (pos 0) ≡ false → T (non_neg z)
-natural_is (pos n) e = tt
-natural_is (negsuc n) e = let z : ◌≡◌ {A = ℕ} 0 1 = cc in absurd (omega arith)
-
-pub negative_is : (z : ℤ) → z <ℤ pos 0 → z ≡ negsuc (mag z)
-negative_is (pos n) h = absurd (omega (arith, ltb→lt n 0 h.lt))
-negative_is (negsuc n) h = refl
+pub signed_cast : (n : ℕ) → n < 2 ^ 64 → to_z w64 n ≡ signed_of 64 n
+signed_cast n h =
+    let f : SFits w64 (signed_of 64 n) = record { sfits = signed_range 64 n (omega arith) } in
+    ap (to_z w64) (sym (bits_cast (signed_of 64 n) f ∙ bits_signed 64 n ∙ mod-eq_of_lt h)) ∙ to_z-of_z f

@@ -4,24 +4,17 @@
 // again. Nothing here knows what a field means.
 #![tactic(auto)]
 
-ghost use Rattle.std.specs.Prelude.{◌≡◌, ◌+◌, ◌*◌, ◌^◌, ◌<◌, ◌≤◌, pos, negsuc, ◌<ℤ◌, length, take, drop};
+ghost use Rattle.std.specs.Prelude.{◌≡◌, ◌+◌, ◌*◌, ◌^◌, ◌<◌, ◌≤◌, length, take, drop};
 ghost use Rattle.fields.specs.Bytes.{number_of, with_bytes};
 ghost use Rattle.fields.specs.Fields.{with_part, field_of, with_field, Power, Bits};
 ghost use Rattle.fields.specs.Signed.{signed_of, bits_of};
 
-// 2 to the power k: what a shift by k bits multiplies or divides by.
+// 2 to the power k: what a shift by k bits multiplies or divides by. A shift, and no call of std's power, which multiplies.
 fn pow2(k: usize) -> u64
     requires { k < 64 }
     ensures { Power k result }
 {
     1u64 << k
-}
-
-// A byte as a word.
-pub fn wide(b: u8) -> u64
-    ensures { result ≡ b }
-{
-    b as u64
 }
 
 // The number of the n bytes from byte `from` on.
@@ -30,10 +23,8 @@ fn load(s: &[u8], from: usize, n: usize) -> u64
     ensures { Bits (8 * n) (number_of (take n (drop from s.now))) result }
 {
     let mut number: u64 = 0;
-    let mut i: usize = 0;
-    while i < n {
-        number = number * 256 + wide(s[from + i]);
-        i += 1;
+    for &b in &s[from..from + n] {
+        number = number * 256 + u64::from(b);
     }
     number
 }
@@ -44,15 +35,14 @@ fn store(s: &mut [u8], from: usize, n: usize, v: u64)
     ensures { s.new ≡ with_bytes s.old from n v }
 {
     let mut rest = v;
-    let mut i = n;
-    while 0 < i {
-        i -= 1;
+    for i in (0..n).rev() {
         s[from + i] = (rest % 256) as u8;
-        rest = rest / 256;
+        rest /= 256;
     }
 }
 
 // The eight bytes from byte `from` on, as a number. By halves, of which the compiler makes one load.
+// std's `from_be_bytes` takes an array, which a slice becomes by a conversion that answers an `Option` or a `Result`: no plainer.
 pub fn read_word(s: &[u8], from: usize) -> u64
     requires { from + 8 ≤ length s.now }
     ensures { Bits 64 (number_of (take 8 (drop from s.now))) result }
@@ -61,6 +51,8 @@ pub fn read_word(s: &[u8], from: usize) -> u64
 }
 
 // Stores v in the eight bytes from byte `from` on.
+// std's `copy_from_slice` of `to_be_bytes` is no plainer: no law of std joins those bytes to `bytes_of`, and the check, which finds
+// this proof alone, was left with one of its own to write.
 pub fn write_word(s: &mut [u8], from: usize, v: u64)
     requires { from + 8 ≤ length s.old }
     ensures { s.new ≡ with_bytes s.old from 8 v }
@@ -68,7 +60,8 @@ pub fn write_word(s: &mut [u8], from: usize, v: u64)
     store(s, from, 8, v);
 }
 
-// How many bytes the first `bits` bits reach into.
+// How many bytes the first `bits` bits reach into. std's `div_ceil` asks for the remainder: four instructions more for a width that is not
+// known to the compiler.
 fn bytes_for(bits: usize) -> usize
     requires { bits ≤ 64 }
     ensures { (bits ≤ 8 * result) × (8 * result < bits + 8) }
@@ -86,6 +79,9 @@ pub fn read_field(s: &[u8], at: usize, width: usize) -> u64
     let n = bytes_for(end);
     load(s, at / 8, n) / pow2(8 * n - end) % pow2(width)
 }
+
+// A width is a plain number with a clause in each function that takes one: most are constants of a layout, and a type would have to be
+// made of each.
 
 // n with `width` of its bits, those that have `low` bits below them, replaced by the `width` low bits of v.
 fn replaced(n: u64, low: usize, width: usize, v: u64) -> u64
@@ -109,22 +105,6 @@ pub fn write_field(s: &mut [u8], at: usize, width: usize, v: u64)
     store(s, from, n, replaced(bytes, 8 * n - end, width, v));
 }
 
-// -(n + 1).
-fn negative(n: u64) -> i64
-    requires { n < 2 ^ 63 }
-    ensures { result ≡ negsuc n }
-{
-    -1 - n as i64
-}
-
-// The n of -(n + 1).
-fn complement(z: i64) -> u64
-    requires { z <ℤ pos 0 }
-    ensures { z ≡ negsuc result }
-{
-    (-1 - z) as u64
-}
-
 // The integer that the `width` low bits of `bits` stand for, by two's complement. Moved up by half the size and down again: of
 // that the compiler makes two shifts, and no branch.
 pub fn to_signed(bits: u64, width: usize) -> i64
@@ -141,11 +121,7 @@ pub fn to_signed(bits: u64, width: usize) -> i64
 pub fn signed_word(word: u64) -> i64
     ensures { result ≡ signed_of 64 word }
 {
-    if word < 9_223_372_036_854_775_808 {
-        word as i64
-    } else {
-        negative(18_446_744_073_709_551_615 - word)
-    }
+    word.cast_signed()
 }
 
 // The `width` low bits of an integer, by two's complement.
@@ -153,21 +129,12 @@ pub fn to_bits(z: i64, width: usize) -> u64
     requires { width < 64 }
     ensures { Bits width (bits_of width z) result }
 {
-    let size = pow2(width);
-    if z < 0 {
-        size - 1 - complement(z) % size
-    } else {
-        z as u64 % size
-    }
+    to_word(z) % pow2(width)
 }
 
-// The bits of an integer in a whole word, by two's complement: what `signed_word` reads. The compiler makes no instruction of it.
+// The bits of an integer in a whole word, by two's complement: what `signed_word` reads. The compiler makes no instruction of either.
 pub fn to_word(z: i64) -> u64
     ensures { result ≡ bits_of 64 z }
 {
-    if z < 0 {
-        18_446_744_073_709_551_615 - complement(z)
-    } else {
-        z as u64
-    }
+    z.cast_unsigned()
 }

@@ -5,7 +5,8 @@ use Prim.Native.Nat.{ℕ}
 use lib.IntN.{ℤ}
 use Rattle.display.specs.Display.{checked_means, by_number, or_refused, given, refused}
 use Rattle.display.proofs.Answers.{at_zero, above_zero, given_is, refused_is}
-use Rattle.display.specs.declared.Checked.{Checked}
+use Rattle.std.specs.Prelude.{⊤, Result}
+use Rattle.display.specs.declared.Refusal.{Refusal}
 use Rattle.machine.specs.Lists.{limit_numbers}
 use Rattle.machine.specs.declared.Block.{Block}
 use Rattle.machine.specs.declared.Limits.{Limits}
@@ -60,6 +61,6 @@ module _ (bytes : List ℕ) where
       }
 
 -- What is written, by its number, of what was read.
-pub written : {A : Type 0} (refusal : A → ℕ) (left : A → List ℕ) {x a : A} {r : Checked} {n : ℕ} {bytes' : List ℕ} → x ≡ a → Wrote (refusal x) (left x) r bytes'
+pub written : {A : Type 0} (refusal : A → ℕ) (left : A → List ℕ) {x a : A} {r : Result ⊤ Refusal} {n : ℕ} {bytes' : List ℕ} → x ≡ a → Wrote (refusal x) (left x) r bytes'
     → n ≡ checked_means r → Written (refusal a) (left a) n bytes'
 written refusal left same w e = record { number_is = e ∙ w.number ∙ ap refusal same; bytes_are = w.bytes ∙ ap left same }

@@ -4,11 +4,12 @@ use mathlib.Core.Path.{◌≡◌, sym, ap, ◌∙◌}
 use Prim.Native.Nat.{ℕ}
 use Rattle.display.specs.Display.{Fault}
 use Rattle.tapeplan.specs.Planned.{FilledTape, planned_means}
-use Rattle.tapeplan.specs.declared.TapePlanned.{TapePlanned}
+use Rattle.std.specs.Prelude.{⊤, Result}
+use Rattle.display.specs.declared.RefusedAt.{RefusedAt}
 use Rattle.fullerecru.specs.Plans.{FilledLent}
 
 -- By the number and the place of its answer.
-pub filled_lent : {tape loaded filling list list' place' : List ℕ} {size : ℕ} (r : TapePlanned) {n : ℕ} → FilledTape tape loaded size filling list list' r
+pub filled_lent : {tape loaded filling list list' place' : List ℕ} {size : ℕ} (r : Result ⊤ RefusedAt) {n : ℕ} → FilledTape tape loaded size filling list list' r
     → n ≡ (planned_means r).number → place' ≡ (planned_means r).place ∷ [] → FilledLent tape loaded size filling n list list' place'
 filled_lent r h e p =
     record {

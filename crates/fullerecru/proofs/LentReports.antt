@@ -2,8 +2,8 @@
 use mathlib.Core.List.{List, ◌∷◌, []}
 use mathlib.Core.Path.{◌≡◌, refl, sym, ap, ◌∙◌}
 use Prim.Native.Nat.{ℕ}
-use Rattle.display.specs.Display.{Fault, given, refused, refusal_number, ◌at◌}
-use Rattle.display.specs.declared.Refusal.{Refusal}
+use Rattle.display.specs.Display.{Fault, given, refused, fault_of}
+use Rattle.display.specs.declared.RefusedAt.{RefusedAt}
 use Rattle.display.proofs.Answers.{above_zero, at_zero, given_is, refused_is}
 use Rattle.report.specs.Figures.{figure_numbers, figures_of}
 use Rattle.report.specs.Report.{Reported, add_answer, add_fault, tapes_in}
@@ -28,9 +28,9 @@ module _ (report tape loaded : List ℕ) where
       }
 
   -- or refused
-  pub report_refused : {report' place' : List ℕ} (figures : List ℕ) {n : ℕ} (why : Refusal) (place : ℕ) → Reported report tape loaded (refused (refusal_number why at place)) report' → place' ≡ place ∷ []
-      → n ≡ refusal_number why → ReportLent report tape loaded n report' figures figures place'
-  report_refused figures why place r p e =
+  pub report_refused : {report' place' : List ℕ} (figures : List ℕ) {n : ℕ} (r : RefusedAt) → Reported report tape loaded (refused (fault_of r)) report' → place' ≡ (fault_of r).place ∷ []
+      → n ≡ (fault_of r).number → ReportLent report tape loaded n report' figures figures place'
+  report_refused figures _ r p e =
       let g = refused_is (figures_of tape loaded) fault fault.number r.answered in
       record {
         number_is = e ∙ ap (λ (f : Fault). f.number) g.1;

@@ -4,13 +4,13 @@ use mathlib.Core.Path.{◌≡◌, refl, sym, ap, ◌∙◌}
 use Prim.Native.Nat.{ℕ, zero, suc, ◌*◌}
 use native.Mathlib.Omega.{arith}
 use lib.ListN.{length}
-use Rattle.display.specs.Display.{Fault, ◌at◌, ◌else◌, refusal_number}
-use Rattle.display.specs.declared.Refusal.{Refusal}
+use Rattle.display.specs.Display.{Fault, ◌at◌, ◌else◌, fault_of}
 use Rattle.display.proofs.Answers.{at_zero, above_zero, given_is, refused_is}
 use Rattle.tape.specs.Tape.{record_bytes}
 use Rattle.tape.specs.Answers.{ragged_below}
 use Rattle.rs274.specs.Answers.{WroteText, lines_fault, text_answer, text_blocks, text_fault}
-use Rattle.rs274.specs.declared.TextAnswer.TheVariants.{Written, Refused}
+use Rattle.std.specs.Prelude.{Ok, Err}
+use Rattle.display.specs.declared.RefusedAt.{RefusedAt}
 use Rattle.fullerecru.specs.Texts.{TextLent}
 
 -- Where the second of two faults has no place, nothing refused has none.
@@ -27,7 +27,7 @@ module _ (text records : List ℕ) where
   text_place = no_place_lem (lines_fault text).number (lines_fault text).place (ragged_below (record_bytes * length (text_blocks text)) records)
 
   -- the records are written,
-  pub text_written_lem : {left blocks blocks' place' : List ℕ} (count : ℕ) → WroteText text records (Written count) left → blocks' ≡ count ∷ [] → place' ≡ 0 ∷ []
+  pub text_written_lem : {left blocks blocks' place' : List ℕ} (count : ℕ) → WroteText text records (Ok count) left → blocks' ≡ count ∷ [] → place' ≡ 0 ∷ []
       → TextLent text 0 records left blocks blocks' place'
   unfolding text_answer
   text_written_lem {blocks} count w b p =
@@ -40,16 +40,16 @@ module _ (text records : List ℕ) where
       }
 
   -- or the text is refused.
-  pub text_refused : {left place' : List ℕ} (blocks : List ℕ) {n : ℕ} (why : Refusal) (line : ℕ) → WroteText text records (Refused why line) left → place' ≡ line ∷ [] → n ≡ refusal_number why
+  pub text_refused : {left place' : List ℕ} (blocks : List ℕ) {n : ℕ} (r : RefusedAt) → WroteText text records (Err r) left → place' ≡ (fault_of r).place ∷ [] → n ≡ (fault_of r).number
       → TextLent text n records left blocks blocks place'
   unfolding text_answer
-  text_refused blocks why line w p e =
-      let r = refused_is (length (text_blocks text)) fault fault.number w.answer in
+  text_refused blocks r w p e =
+      let g = refused_is (length (text_blocks text)) fault fault.number w.answer in
       record {
-        number_is = e ∙ ap (λ (f : Fault). f.number) r.1;
-        place_is = p ∙ ap (λ (f : Fault). f.place ∷ []) r.1;
+        number_is = e ∙ ap (λ (f : Fault). f.number) g.1;
+        place_is = p ∙ ap (λ (f : Fault). f.place ∷ []) g.1;
         records_are = w.bytes;
-        blocks_are = sym (above_zero (length (text_blocks text) ∷ []) blocks r.0);
+        blocks_are = sym (above_zero (length (text_blocks text) ∷ []) blocks g.0);
       }
 
 -- From the promise alone each result and each lent number can be worked out.

@@ -3,6 +3,8 @@
 // `fullerecru_report_fresh` and `fullerecru_position` returns the number on the display: 0 for accepted, else the refusal, which
 // leaves what was lent as it was (the place of a record or a line at fault is written even so). Nothing is required but pointers
 // to as many bytes, numbers or doubles as are named, and that what a call may write is lent to it once only.
+// Where an answer goes into lent lists its number is made by a `match` of the call's own: a function over a closure would have to
+// say in its contract which lists the closure fills. Exported functions cannot be generic, so some are alike.
 #![tactic(auto)]
 
 mod numbers;

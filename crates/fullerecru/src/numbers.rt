@@ -1,74 +1,58 @@
 // What the functions for C share: the numbers on the display of the planner's answers and of planning a tape, with its place, a
 // block's moves in a list, and a list for a count.
 ghost use Rattle.std.specs.Prelude.{◌∷◌, [], ◌≡◌, length};
-ghost use Rattle.line.specs.Answers.{add_means, answer_number, show_means};
+ghost use Rattle.display.specs.Display.{fault_of};
+ghost use Rattle.line.specs.Answers.{answer_number, done_means};
 ghost use Rattle.machine.specs.Labels.{moves_size};
 ghost use Rattle.tapeplan.specs.Planned.{planned_means};
 ghost use Rattle.fullerecru.specs.Moves.{block_moves};
 ghost use Rattle.fullerecru.specs.Plans.{count_size};
 
-use display::refusal_number;
-use line::{AddAnswer, ShowAnswer};
+use display::{Refusal, RefusedAt, checked_number, refusal_number};
 use machine::Block;
-use tapeplan::TapePlanned;
+use machine::blocks::MOVES;
 
 // Numbers of a list for a count: of blocks, or the place of a record or a line, counted from 1.
 pub const COUNT: usize = 1;
 
-// The number on the display of an add's answer.
-pub fn added_number(a: AddAnswer) -> u64
-    ensures { result ≡ answer_number (add_means a) }
+// The number on the display of what an add or showing the plan answers: that of a check, said of a line's answer.
+pub fn done_number(answer: Result<(), Refusal>) -> u64
+    ensures { result ≡ answer_number (done_means answer) }
 {
-    match a {
-        AddAnswer::Added => 0,
-        AddAnswer::Refused(why) => refusal_number(why),
-    }
+    checked_number(answer)
 }
 
-// The number on the display of what showing the plan answers.
-pub fn shown_number(a: ShowAnswer) -> u64
-    ensures { result ≡ answer_number (show_means a) }
-{
-    match a {
-        ShowAnswer::Shown => 0,
-        ShowAnswer::Refused(why) => refusal_number(why),
-    }
-}
-
-// Stores the moves of a block, µm.
-pub fn put_moves(b: Block, moves: &mut [i64])
-    requires { length moves.old ≡ moves_size }
+// Stores the moves of a block, µm. The point of `orders` is stored likewise: one line each, over another type of number.
+pub fn put_moves(b: Block, moves: &mut [i64; MOVES])
     ensures { moves.new ≡ block_moves b }
 {
-    let x = b.x;
-    let y = b.y;
-    let z = b.z;
-    moves[0] = x;
-    moves[1] = y;
-    moves[2] = z;
+    *moves = [b.x, b.y, b.z];
 }
 
 // Stores a count in its list.
-pub fn put_number(list: &mut [u64], n: u64)
-    requires { length list.old ≡ count_size }
+pub fn put_number(list: &mut [u64; COUNT], n: u64)
     ensures { list.new ≡ n ∷ [] }
 {
-    list[0] = n;
+    *list = [n];
+}
+
+// Stores the place of a refusal, and gives its number on the display.
+pub fn refused_number(fault: RefusedAt, place: &mut [u64; COUNT]) -> u64
+    ensures { (result ≡ (fault_of fault).number) × (place.new ≡ (fault_of fault).place ∷ []) }
+{
+    put_number(place, fault.place as u64);
+    refusal_number(fault.why)
 }
 
 // Stores the place of what planning a tape answers, and gives the number on the display.
-pub fn planned_number(a: TapePlanned, place: &mut [u64]) -> u64
-    requires { length place.old ≡ count_size }
-    ensures { (result ≡ (planned_means a).number) × (place.new ≡ (planned_means a).place ∷ []) }
+pub fn planned_number(answer: Result<(), RefusedAt>, place: &mut [u64; COUNT]) -> u64
+    ensures { (result ≡ (planned_means answer).number) × (place.new ≡ (planned_means answer).place ∷ []) }
 {
-    match a {
-        TapePlanned::Planned => {
+    match answer {
+        Ok(()) => {
             put_number(place, 0);
             0
         }
-        TapePlanned::Refused(why, at) => {
-            put_number(place, at as u64);
-            refusal_number(why)
-        }
+        Err(fault) => refused_number(fault, place),
     }
 }

@@ -7,16 +7,15 @@ ghost use Rattle.host.specs.State.{fresh_host, host_numbers, host_of, position_o
 ghost use Rattle.host.specs.declared.orders.Order.TheVariants.{Rapid, Feed, CurveChord};
 ghost use Rattle.fullerecru.specs.Orders.{coordinates_of, point_from, point_size};
 
-use crate::numbers::added_number;
+use crate::numbers::done_number;
 use host::order;
 use host::orders::{Order, Point};
 
 // Coordinates of a point: X, Y, Z.
 pub const POINT: usize = 3;
 
-// The point of its coordinates.
-fn point_from(list: &[f64]) -> Point
-    requires { length list.now ≡ point_size }
+// The point of its coordinates. No `From`: both types are other crates'.
+fn point_from(list: &[f64; POINT]) -> Point
     ensures { result ≡ point_from list.now }
 {
     Point {
@@ -27,13 +26,10 @@ fn point_from(list: &[f64]) -> Point
 }
 
 // Stores the coordinates of a point.
-fn put_point(p: Point, list: &mut [f64])
-    requires { length list.old ≡ point_size }
+fn put_point(p: Point, list: &mut [f64; POINT])
     ensures { list.new ≡ coordinates_of p }
 {
-    list[0] = p.x;
-    list[1] = p.y;
-    list[2] = p.z;
+    *list = [p.x, p.y, p.z];
 }
 
 // Makes a fresh host: its point is zero, and no order was accepted.
@@ -55,7 +51,7 @@ pub extern "C" fn fullerecru_rapid(
     ensures { Ordered memory.old host.old (Rapid (point_from target.now)) (point_from offset.now) (answer_by result) memory.new host.new }
 {
     let o = Order::Rapid(point_from(target));
-    added_number(order(memory, host, o, point_from(offset)))
+    done_number(order(memory, host, o, point_from(offset)))
 }
 
 // Adds a feed to a point with a speed, mm/s. Refuses as a rapid does.
@@ -70,7 +66,7 @@ pub extern "C" fn fullerecru_feed(
     ensures { Ordered memory.old host.old (Feed (point_from target.now) speed) (point_from offset.now) (answer_by result) memory.new host.new }
 {
     let o = Order::Feed(point_from(target), speed);
-    added_number(order(memory, host, o, point_from(offset)))
+    done_number(order(memory, host, o, point_from(offset)))
 }
 
 // Adds a curve chord to a point with a speed, mm/s, and a radius, mm. Refuses as a rapid does.
@@ -86,7 +82,7 @@ pub extern "C" fn fullerecru_curve_chord(
     ensures { Ordered memory.old host.old (CurveChord (point_from target.now) speed radius) (point_from offset.now) (answer_by result) memory.new host.new }
 {
     let o = Order::CurveChord(point_from(target), speed, radius);
-    added_number(order(memory, host, o, point_from(offset)))
+    done_number(order(memory, host, o, point_from(offset)))
 }
 
 // Stores the host's point, the last accepted order's rounded one, in µm.

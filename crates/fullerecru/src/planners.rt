@@ -9,21 +9,19 @@ ghost use Rattle.planner.specs.Calls.{Called, Freshened, Showed, Told};
 ghost use Rattle.fullerecru.specs.Moves.{Stored};
 ghost use Rattle.fullerecru.specs.Planners.{TakenOut};
 
-use crate::numbers::{added_number, put_moves, shown_number};
+use crate::numbers::{done_number, put_moves};
 use display::{checked_number, refusal_number};
+use line::Given;
 use line::lists::{GIVEN, store_given_numbers};
-use line::{Given, TakeAnswer};
 use machine::blocks::{MOVES, plain_block};
 use machine::lists::{LIMITS, limits_from};
 use planner::{NUMBERS, add, fresh, shown, take, told};
 
 // Stores a block given out in the lent lists.
-fn hand_out(g: Given, moves: &mut [i64], numbers: &mut [u64])
-    requires { (length moves.old ≡ moves_size) × (length numbers.old ≡ given_size) }
+fn hand_out(g: Given, moves: &mut [i64; MOVES], numbers: &mut [u64; GIVEN])
     ensures { Stored g.block (given_numbers g) moves.new numbers.new }
 {
-    let b = g.block;
-    put_moves(b, moves);
+    put_moves(g.block, moves);
     store_given_numbers(g, numbers);
 }
 
@@ -55,12 +53,12 @@ pub extern "C" fn fullerecru_add(
 ) -> u64
     ensures { Called memory.old (blocks.add (plain_block x y z feed radius mark)) (answer_by result) memory.new }
 {
-    added_number(add(memory, plain_block(x, y, z, feed, radius, mark)))
+    done_number(add(memory, plain_block(x, y, z, feed, radius, mark)))
 }
 
 // Gives out the first block: its moves, µm, and feed, radius, mark, length, µm, acceleration, µm/s²,
 // entry, exit and peak, (µm/s)², and the lengths of speeding up, of constant speed and of braking,
-// µm. Refuses by 8.
+// µm. Refuses by 8. Like the reader of a record (`tapes`), but for C a function of its own.
 #[unsafe(no_mangle)]
 pub extern "C" fn fullerecru_take(
     memory: &mut [u64; NUMBERS],
@@ -70,8 +68,8 @@ pub extern "C" fn fullerecru_take(
     ensures { TakenOut memory.old result memory.new moves.old moves.new numbers.old numbers.new }
 {
     match take(memory) {
-        TakeAnswer::Refused(why) => refusal_number(why),
-        TakeAnswer::Given(g) => {
+        Err(why) => refusal_number(why),
+        Ok(g) => {
             hand_out(g, moves, numbers);
             0
         }
@@ -92,5 +90,5 @@ pub extern "C" fn fullerecru_told(memory: &[u64; NUMBERS]) -> u64
 pub extern "C" fn fullerecru_shown(memory: &[u64; NUMBERS], list: &mut [u64]) -> u64
     ensures { Showed memory.now list.old (answer_by result) list.new }
 {
-    shown_number(shown(memory, list))
+    done_number(shown(memory, list))
 }

@@ -4,7 +4,7 @@ ghost use Rattle.fullerecru.specs.Plans.{ListLent, PlanLent, ReplayLent};
 
 use crate::numbers::{COUNT, planned_number, put_number};
 use display::refusal_number;
-use replay::{Replayed, replay};
+use replay::replay;
 use tape_rows::list_tape;
 use tapeplan::whole::plan_tape;
 
@@ -25,7 +25,7 @@ pub extern "C" fn fullerecru_plan_tape(
     planned_number(plan_tape(tape, steps, list), place)
 }
 
-// Lists a tape that is planned as by `fullerecru_plan_tape`: the list gets `listing::rows::ROW` numbers for each block, in
+// Lists a tape that is planned as by `fullerecru_plan_tape`: the list gets `tape_rows::ROW` numbers for each block, in
 // order: those of `fullerecru_take`, the greatest squared speed in the block, and the cap of the junction where it begins,
 // (µm/s)², 0 for the first. Refuses as `fullerecru_plan_tape`, by 11 where the list has not exactly so many numbers, and then
 // the list stays as it was.
@@ -60,8 +60,8 @@ pub extern "C" fn fullerecru_replay(
     ensures { ReplayLent trace.now steps.now result answers.old answers.new plan.old plan.new told.old told.new }
 {
     match replay(trace, steps, answers, plan) {
-        Replayed::Refused(why) => refusal_number(why),
-        Replayed::Done(held) => {
+        Err(why) => refusal_number(why),
+        Ok(held) => {
             put_number(told, held);
             0
         }

@@ -4,9 +4,7 @@ ghost use Rattle.std.specs.Prelude.{◌≡◌};
 ghost use Rattle.report.specs.Report.{fresh_report};
 ghost use Rattle.fullerecru.specs.Reports.{HeldLent, ReportLent};
 
-use crate::numbers::{COUNT, planned_number, put_number};
-use display::refusal_number;
-use report::Figured;
+use crate::numbers::{COUNT, planned_number, put_number, refused_number};
 use report::held::held_back;
 use report::tapes::{FIGURES, store_figures};
 
@@ -34,15 +32,12 @@ pub extern "C" fn fullerecru_report_add(
     ensures { ReportLent report.old tape.now steps.now result report.new figures.old figures.new place.new }
 {
     match report::add(report, tape, steps) {
-        Figured::Figures(f) => {
+        Ok(f) => {
             store_figures(f, figures);
             put_number(place, 0);
             0
         }
-        Figured::Refused(why, at) => {
-            put_number(place, at as u64);
-            refusal_number(why)
-        }
+        Err(fault) => refused_number(fault, place),
     }
 }
 

@@ -13,17 +13,13 @@ use machine::blocks::{FIELDS, MOVES, plain_block};
 use machine::lists::{LIMITS, limits_from, store_limits};
 use tape::limits::{read_limits, write_limits};
 use tape::records::{read_record, write_record};
-use tape::{LimitsRead, RecordRead};
 
 // Stores a block as its moves and its other numbers.
-fn put_block(b: Block, moves: &mut [i64], numbers: &mut [u64])
-    requires { (length moves.old ≡ moves_size) × (length numbers.old ≡ fields_size) }
+fn put_block(b: Block, moves: &mut [i64; MOVES], numbers: &mut [u64; FIELDS])
     ensures { Stored b (block_numbers b) moves.new numbers.new }
 {
     put_moves(b, moves);
-    numbers[0] = b.feed;
-    numbers[1] = b.radius;
-    numbers[2] = b.mark;
+    *numbers = [b.feed, b.radius, b.mark];
 }
 
 // Reads the limits that the bytes begin with, `tape::LIMITS_BYTES` of them; later bytes play no part.
@@ -34,8 +30,8 @@ pub extern "C" fn fullerecru_read_limits(bytes: &[u8], limits: &mut [u64; LIMITS
     ensures { LimitsLent bytes.now limits.old result limits.new }
 {
     match read_limits(bytes) {
-        LimitsRead::Refused(why) => refusal_number(why),
-        LimitsRead::Read(l) => {
+        Err(why) => refusal_number(why),
+        Ok(l) => {
             store_limits(l, limits);
             0
         }
@@ -54,6 +50,7 @@ pub extern "C" fn fullerecru_write_limits(limits: &[u64; LIMITS], bytes: &mut [u
 // Reads the record that the bytes begin with, `tape::RECORD_BYTES` of them; later bytes play no part.
 // Gives the block's moves X, Y, Z, µm, and its feed, µm/s, radius, µm, 0 for no curve, and mark.
 // Refuses by 9 under so many bytes, then by 2 to 5 (every mark of a record is in its range), and then both lists stay as they were.
+// Like the taker of a block (`planners`), but for C a function of its own.
 #[unsafe(no_mangle)]
 pub extern "C" fn fullerecru_read_record(
     bytes: &[u8],
@@ -63,8 +60,8 @@ pub extern "C" fn fullerecru_read_record(
     ensures { RecordLent bytes.now result moves.old moves.new numbers.old numbers.new }
 {
     match read_record(bytes) {
-        RecordRead::Refused(why) => refusal_number(why),
-        RecordRead::Read(b) => {
+        Err(why) => refusal_number(why),
+        Ok(b) => {
             put_block(b, moves, numbers);
             0
         }

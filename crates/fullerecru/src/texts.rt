@@ -1,9 +1,7 @@
 // Programs in RS-274 text for C. Bytes are handed over as a pointer and their number.
 ghost use Rattle.fullerecru.specs.Texts.{TextLent};
 
-use crate::numbers::{COUNT, put_number};
-use display::refusal_number;
-use rs274::TextAnswer;
+use crate::numbers::{COUNT, put_number, refused_number};
 use rs274::whole::text_records;
 
 // Writes the blocks of a text as tape records, `tape::RECORD_BYTES` each, from the first byte of `records` on, all or none, and their number to `blocks`. Refuses
@@ -19,14 +17,11 @@ pub extern "C" fn fullerecru_text(
     ensures { TextLent text.now result records.old records.new blocks.old blocks.new place.new }
 {
     match text_records(text, records) {
-        TextAnswer::Written(count) => {
+        Ok(count) => {
             put_number(blocks, count as u64);
             put_number(place, 0);
             0
         }
-        TextAnswer::Refused(why, line) => {
-            put_number(place, line as u64);
-            refusal_number(why)
-        }
+        Err(fault) => refused_number(fault, place),
     }
 }

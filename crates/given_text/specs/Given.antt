@@ -1,9 +1,8 @@
 -- The line of a block given out.
-use Rattle.std.specs.Prelude.{List, ◌∷◌, [], ℕ, ◌+◌, ◌*◌, ◌≤◌, length}
+use Rattle.std.specs.Prelude.{List, ◌∷◌, [], ℕ, ◌+◌, ◌*◌, ◌≤◌}
 use Rattle.line.specs.declared.Given.{Given}
 use Rattle.text.specs.Text.{row}
-use Rattle.text.specs.Store.{Answered, Stored}
-use Rattle.text.specs.declared.Put.{Put}
+use Rattle.text.specs.Store.{Stored}
 use Rattle.given_text.specs.declared.Listed.{Listed}
 
 -- what the line shows of a block given out
@@ -34,11 +33,6 @@ most_row n = 21 * n + 1
 
 abbrev pub most_given : ℕ
 most_given = most_row 9
-
--- a row is stored whole if it has room, else not at all; numbers of 64 bits make no longer one
-pub record PutRow (s : List ℕ) (at : ℕ) (numbers : List ℕ) (answer : Put) (after : List ℕ) : Type 0 where
-  pub answered : Answered s at (row numbers) answer after
-  pub short : length (row numbers) ≤ most_row (length numbers)
 
 -- a line that had room, stored from place `at` on
 pub record WroteLine (line text : List ℕ) (at end : ℕ) (text' : List ℕ) : Type 0 where

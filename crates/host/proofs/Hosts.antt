@@ -1,19 +1,17 @@
 -- The numbers that keep a host: whatever they are the point is within 32 bits, and a host behind an accepted order is read back from them. From
 -- the laws of two's complement.
-use mathlib.Core.Path.{◌≡◌, refl, sym, ap, ◌∙◌}
+use mathlib.Core.Path.{◌≡◌, refl, ap, ◌∙◌}
 use mathlib.Core.Bool.{true}
-use Prim.Native.Nat.{ℕ, suc, ◌+◌, ◌-◌, ◌%◌, ◌^◌, ◌≤◌, ◌<◌}
+use Prim.Native.Nat.{ℕ, ◌+◌, ◌^◌, ◌≤◌, ◌<◌}
 use native.Mathlib.Nat.{mod-eq_of_lt}
-use native.Mathlib.Decide.{dec_lt}
 use native.Mathlib.Omega.{arith}
-use borrow.Author.Tests.{lt-ltb, le-ltb}
 use lib.Dec.{lit<}
 use lib.Ieee.{binary64, fin, of_int, to_signed}
-use lib.IntN.{ℤ, pos, negsuc, nat_abs, ◌-ℤ◌}
+use lib.IntN.{ℤ, pos, negsuc, nat_abs}
 use lib.Signed.{mag}
-use Rattle.arith.proofs.SignedLaws.{mag_le, nat_abs_minus, read_back, small_back}
+use Rattle.arith.proofs.SignedLaws.{mag_le, read_back, small_back}
 use Rattle.fields.specs.Signed.{signed_of, bits_of}
-use Rattle.fields.proofs.Signed.{signed_bits, signed_high, signed_low, signed_range}
+use Rattle.fields.proofs.Signed.{signed_bits, signed_range}
 use Rattle.display.proofs.Answers.{then_zero}
 use Rattle.line.specs.Blocks.{add_refusal}
 use Rattle.machine.specs.Checks.{block_refusal}
@@ -23,18 +21,6 @@ use Rattle.doubles.proofs.Positions.{position_exact, position_not_minus_zero}
 use Rattle.host.specs.Fields.{Within, value_of}
 use Rattle.host.specs.State.{Host, fresh_host, host_bits, coordinate_of, host_of, host_numbers, host_behind, block_of}
 use Rattle.host.specs.declared.orders.Readings.{Readings}
-
--- A coordinate by two's complement, from the number shifted by half the range.
-pub coordinate_shifted : (n : ℕ) → pos ((n % 2 ^ 32 + 2 ^ 31) % 2 ^ 32) -ℤ pos (2 ^ 31) ≡ coordinate_of n
-coordinate_shifted n = go (dec_lt (n % 2 ^ 32 + n % 2 ^ 32) (2 ^ 32))
-  where
-    go : Dec (n % 2 ^ 32 + n % 2 ^ 32 < 2 ^ 32) → pos ((n % 2 ^ 32 + 2 ^ 31) % 2 ^ 32) -ℤ pos (2 ^ 31) ≡ coordinate_of n
-    go (yes h) =
-        let same : (n % 2 ^ 32 + 2 ^ 31) % 2 ^ 32 - 2 ^ 31 ≡ n % 2 ^ 32 = omega arith in
-        rw (le-ltb ((n % 2 ^ 32 + 2 ^ 31) % 2 ^ 32) (2 ^ 31) (omega arith)) (ap pos same ∙ sym (signed_low 32 {p = 2 ^ 32} refl n h))
-    go (no h) =
-        let same : 2 ^ 31 - suc ((n % 2 ^ 32 + 2 ^ 31) % 2 ^ 32) ≡ 2 ^ 32 - 1 - n % 2 ^ 32 = omega arith in
-        rw (lt-ltb ((n % 2 ^ 32 + 2 ^ 31) % 2 ^ 32) (2 ^ 31) (omega arith)) (ap negsuc same ∙ sym (signed_high 32 {p = 2 ^ 32} refl n (omega arith)))
 
 -- A coordinate that is kept, whatever its number.
 pub coordinate_small : (n : ℕ) → nat_abs (coordinate_of n) ≤ 2 ^ 31
@@ -59,9 +45,6 @@ module _ (n : ℕ) {k : ℤ} (kept : k ≡ coordinate_of n) where
   pub double_fits : nat_abs (read_back k) ≤ 2 ^ 53
   double_fits = rw kept_back (omega (arith, coordinate_small n))
 
-  pub double_is : of_int binary64 (read_back k) ≡ of_int binary64 (coordinate_of n)
-  double_is = ap (of_int binary64) kept_back
-
   -- and a move from it to a coordinate that was read fits.
   module _ {v z : ℤ} (read : v ≡ z) (within : nat_abs z ≤ most_read) where
     read_is : read_back v ≡ z
@@ -69,11 +52,6 @@ module _ (n : ℕ) {k : ℤ} (kept : k ≡ coordinate_of n) where
 
     pub move_fits : nat_abs (read_back v) + nat_abs (read_back k) < 2 ^ 63
     move_fits = rw (read_is, kept_back) (omega (arith, within, coordinate_small n))
-
-    pub move_is : {m : ℤ} → m ≡ read_back v -ℤ read_back k → read_back m ≡ z -ℤ coordinate_of n
-    move_is e =
-        ap read_back (e ∙ (λ i. read_is i -ℤ kept_back i))
-        ∙ small_back (z -ℤ coordinate_of n) (omega (arith, within, coordinate_small n, nat_abs_minus z (coordinate_of n)))
 
 -- A coordinate that was read is kept as it is,
 coordinate_back : (z : ℤ) → nat_abs z ≤ most_read → coordinate_of (bits_of host_bits z) ≡ z

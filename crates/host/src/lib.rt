@@ -5,16 +5,16 @@
 #![tactic(auto)]
 
 ghost use Rattle.std.specs.Prelude.{◌≡◌};
-ghost use Rattle.line.specs.Answers.{add_means, answer_means};
+ghost use Rattle.line.specs.Answers.{answer_means, done_means};
 ghost use Rattle.host.specs.Calls.{Ordered};
 ghost use Rattle.host.specs.Events.{EventDone};
 ghost use Rattle.host.specs.State.{fresh_host, host_numbers, host_of, position_of};
 
-use display::Checked;
-use line::{AddAnswer, Answer};
+use display::Refusal;
+use line::Given;
 use orders::{Event, Order, Point};
 use reading::{check_fields, read_fields};
-use state::{add_read, coordinate_double, store_fresh};
+use state::{add_read, coordinate_double};
 
 pub mod orders;
 mod reading;
@@ -28,7 +28,7 @@ pub const NUMBERS: usize = 4;
 pub fn fresh(host: &mut [u64; NUMBERS])
     ensures { host.new ≡ host_numbers fresh_host }
 {
-    store_fresh(host);
+    *host = [0; NUMBERS];
 }
 
 // The host's point, the last accepted order's rounded one, µm.
@@ -42,6 +42,8 @@ pub fn position(host: &[u64; NUMBERS]) -> Point
     }
 }
 
+// Memory and host are two lists, as C lends them.
+
 // Carries out an order with its work offset: the add of its block. Refuses by 15 or 16, field by field in the order X, Y, Z,
 // speed, radius, then by 2 to 7. A refusal changes nothing.
 pub fn order(
@@ -49,25 +51,27 @@ pub fn order(
     host: &mut [u64; NUMBERS],
     o: Order,
     offset: Point,
-) -> AddAnswer
-    ensures { Ordered memory.old host.old o offset (add_means result) memory.new host.new }
+) -> Result<(), Refusal>
+    ensures { Ordered memory.old host.old o offset (done_means result) memory.new host.new }
 {
     let fields = read_fields(o, offset);
-    match check_fields(fields) {
-        Checked::Refused(why) => AddAnswer::Refused(why),
-        Checked::Passed => add_read(memory, host, fields),
-    }
+    check_fields(fields)?;
+    add_read(memory, host, fields)
 }
 
 // An order, an add or a take, as a value.
-pub fn event(memory: &mut [u64; planner::NUMBERS], host: &mut [u64; NUMBERS], e: Event) -> Answer
+pub fn event(
+    memory: &mut [u64; planner::NUMBERS],
+    host: &mut [u64; NUMBERS],
+    e: Event,
+) -> Result<Option<Given>, Refusal>
     ensures { EventDone (record { memory = memory.old; host = host.old }) e (answer_means result) (record { memory = memory.new; host = host.new }) }
 {
     match e {
-        Event::Order(o, offset) => match order(memory, host, o, offset) {
-            AddAnswer::Added => Answer::Accepted,
-            AddAnswer::Refused(why) => Answer::Refused(why),
-        },
+        Event::Order(o, offset) => {
+            order(memory, host, o, offset)?;
+            Ok(None)
+        }
         Event::Call(c) => planner::call(memory, c),
     }
 }

@@ -11,7 +11,8 @@ use lib.Dec.{eqb, lit<}
 use lib.ListN.{length, length-set, length-append, get_or-append}
 use lib.Seq.{get_or_at}
 use Rattle.display.proofs.Answers.{then_zero, not_picked}
-use Rattle.profile.specs.Line.{Span, no_span, span_at, cap_at, total_reach}
+use Rattle.profile.specs.Line.{no_span, span_at, cap_at, total_reach}
+use Rattle.profile.specs.declared.Span.{Span}
 use Rattle.profile.specs.Passes.{start_limit, CanBrake}
 use Rattle.profile.proofs.Brake.{add_keeps}
 use Rattle.profile.specs.Stairs.{Stair}

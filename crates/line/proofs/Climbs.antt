@@ -9,7 +9,8 @@ use native.Mathlib.Omega.{arith}
 use lib.Dec.{eqb}
 use lib.ListN.{length, get_or, set, take, length-set, length-append, get_or-append}
 use lib.Seq.{length-take-le, get_or-take, get_or_at, get_or-append-add}
-use Rattle.profile.specs.Line.{Span, total_reach}
+use Rattle.profile.specs.Line.{total_reach}
+use Rattle.profile.specs.declared.Span.{Span}
 use Rattle.profile.specs.Passes.{brake}
 use Rattle.profile.specs.declared.Stay.{Stay}
 use Rattle.profile.specs.Stairs.{Stair, stair, no_stair, stair_from, stairs_of, stairs_after, nearer, first_allows}

@@ -6,7 +6,8 @@ use Prim.Native.Nat.{ℕ, zero, suc, ◌+◌, ◌<◌}
 use native.Mathlib.Omega.{arith}
 use lib.ListN.{length}
 use lib.Seq.{ext_get_or}
-use Rattle.profile.specs.Line.{Span, no_span, span_at, cap_at, reach_at}
+use Rattle.profile.specs.Line.{no_span, span_at, cap_at, reach_at}
+use Rattle.profile.specs.declared.Span.{Span}
 use Rattle.profile.specs.Passes.{forward}
 use Rattle.profile.proofs.Plan.{plan_forward}
 use Rattle.profile.proofs.Highest.{plan_highest}

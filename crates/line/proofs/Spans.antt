@@ -5,7 +5,8 @@ use Prim.Native.Nat.{ℕ, suc, ◌+◌, ◌*◌, ◌≤◌, ◌<◌, zero-le}
 use native.Mathlib.Nat.{suc-mul}
 use native.Mathlib.Omega.{arith}
 use lib.ListN.{length, drop}
-use Rattle.profile.specs.Line.{Span, span_at, cap_at, reach_at, total_reach}
+use Rattle.profile.specs.Line.{span_at, cap_at, reach_at, total_reach}
+use Rattle.profile.specs.declared.Span.{Span}
 use Rattle.profile.specs.Passes.{brake, CanBrake}
 use Rattle.profile.proofs.Plan.{start_limit_head}
 use Rattle.machine.specs.Line.{spans_of, spans_after}

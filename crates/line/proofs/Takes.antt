@@ -5,7 +5,8 @@ use mathlib.Core.List.{List, ◌∷◌, []}
 use Prim.Native.Nat.{ℕ, zero, suc, ◌-◌, ◌<◌}
 use native.Mathlib.Omega.{arith}
 use lib.ListN.{length, drop, get_or}
-use Rattle.profile.specs.Line.{Span, cap_at, reach_at, total_reach, number_at}
+use Rattle.profile.specs.Line.{cap_at, reach_at, total_reach, number_at}
+use Rattle.profile.specs.declared.Span.{Span}
 use Rattle.profile.specs.Passes.{brake, exit_from, plan_of}
 use Rattle.profile.specs.Stairs.{nearer, stairs_after}
 use Rattle.profile.proofs.Stairs.{after_some, stairs_taken}

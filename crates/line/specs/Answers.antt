@@ -1,6 +1,7 @@
 -- What is answered, as document 01's numbers and values.
-use Rattle.std.specs.Prelude.{cond, List, ◌∷◌, [], ℕ, zero, suc, ◌+◌}
+use Rattle.std.specs.Prelude.{cond, List, ◌∷◌, [], ℕ, zero, suc, ◌+◌, ⊤, Result, Ok, Err, Option, Some, None}
 use Rattle.display.specs.Display.{refusal_number}
+use Rattle.display.specs.declared.Refusal.{Refusal}
 use Rattle.machine.specs.Labels.{fields_size, no_block}
 use Rattle.machine.specs.Numbers.{numbers_of, ramp_of, rampable, no_ramp}
 use Rattle.machine.specs.declared.Block.{Block}
@@ -8,14 +9,6 @@ use Rattle.machine.specs.declared.Machine.{Machine}
 use Rattle.machine.specs.declared.Numbers.{Numbers}
 use Rattle.machine.specs.declared.Ramp.{Ramp}
 use Rattle.line.specs.declared.Given.{Given}
-use Rattle.line.specs.declared.AddAnswer.{AddAnswer}
-use Rattle.line.specs.declared.AddAnswer.TheVariants as add
-use Rattle.line.specs.declared.TakeAnswer.{TakeAnswer}
-use Rattle.line.specs.declared.TakeAnswer.TheVariants as take
-use Rattle.line.specs.declared.ShowAnswer.{ShowAnswer}
-use Rattle.line.specs.declared.ShowAnswer.TheVariants as show
-use Rattle.line.specs.declared.Answer as declared
-use Rattle.line.specs.declared.Answer.TheVariants as call
 
 -- an answer: accepted, a block given out, or the number on the display
 pub data Answer : Type 0 where
@@ -34,22 +27,21 @@ answer_number accepted = 0
 answer_number (gave g) = 0
 answer_number (refused n) = n
 
-abbrev pub add_means : AddAnswer → Answer
-add_means add.Added = accepted
-add_means (add.Refused r) = refused (refusal_number r)
+-- of an add, and of a request to show the plan
+abbrev pub done_means : Result ⊤ Refusal → Answer
+done_means (Ok _) = accepted
+done_means (Err why) = refused (refusal_number why)
 
-abbrev pub take_means : TakeAnswer → Answer
-take_means (take.Given g) = gave g
-take_means (take.Refused r) = refused (refusal_number r)
+-- of a take
+abbrev pub take_means : Result Given Refusal → Answer
+take_means (Ok g) = gave g
+take_means (Err why) = refused (refusal_number why)
 
-abbrev pub show_means : ShowAnswer → Answer
-show_means show.Shown = accepted
-show_means (show.Refused r) = refused (refusal_number r)
-
-abbrev pub answer_means : declared.Answer → Answer
-answer_means call.Accepted = accepted
-answer_means (call.Gave g) = gave g
-answer_means (call.Refused r) = refused (refusal_number r)
+-- of a call: an add gives out nothing
+abbrev pub answer_means : Result (Option Given) Refusal → Answer
+answer_means (Ok None) = accepted
+answer_means (Ok (Some g)) = gave g
+answer_means (Err why) = refused (refusal_number why)
 
 -- a block given out with its entry and exit squared speeds; the rest is worked out from machine and block
 unfoldable pub given_of : Machine → Block → (entry exit : ℕ) → Given

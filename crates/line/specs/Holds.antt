@@ -1,6 +1,7 @@
 -- A ring that holds a line.
 use Rattle.std.specs.Prelude.{◌≡◌, List, ℕ, ◌+◌, ◌≤◌, ◌<◌, length, get_or}
-use Rattle.profile.specs.Line.{Span, cap_at, total_reach}
+use Rattle.profile.specs.Line.{cap_at, total_reach}
+use Rattle.profile.specs.declared.Span.{Span}
 use Rattle.profile.specs.Passes.{CanBrake}
 use Rattle.profile.specs.Stairs.{stair_from, stairs_after}
 use Rattle.machine.specs.Checks.{limits_refusal, block_refusal}

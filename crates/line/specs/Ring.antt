@@ -2,7 +2,7 @@
 -- Every content of the memory has an answer; what is read is cut to the size that the arithmetic takes.
 use Rattle.std.specs.Prelude.{List, ◌∷◌, [], Bool, cond, ℕ, zero, suc, ◌+◌, ◌-◌, ◌%◌, ◌^◌, min, eqb, get_or, set}
 use Rattle.fields.specs.Signed.{signed_of, bits_of}
-use Rattle.profile.specs.Line.{Span}
+use Rattle.profile.specs.declared.Span.{Span}
 use Rattle.profile.specs.Passes.{exit_from, forward}
 use Rattle.profile.specs.declared.Stay.{Stay}
 use Rattle.profile.specs.Stairs.{Stair, stair, no_stair, stay_from}

@@ -1,13 +1,12 @@
 // What a planner answers, and (in specs/) document 01's line of blocks and the ring of places that holds one.
 #![tactic(auto)]
 
-use display::Refusal;
 use machine::{Block, Ramp};
 
 pub mod lists;
 
 // A block given out.
-#[derive(Clone, Copy)]
+#[derive(Clone, Copy, Debug, Default, PartialEq, Eq, Hash)]
 pub struct Given {
     pub block: Block,
     // µm
@@ -20,38 +19,9 @@ pub struct Given {
     pub ramp: Ramp,
 }
 
-// The answer of an add.
-#[derive(Clone, Copy)]
-pub enum AddAnswer {
-    Added,
-    Refused(Refusal),
-}
-
-// The answer of a take.
-#[derive(Clone, Copy)]
-pub enum TakeAnswer {
-    Given(Given),
-    Refused(Refusal),
-}
-
-// The answer of a request to show the plan.
-#[derive(Clone, Copy)]
-pub enum ShowAnswer {
-    Shown,
-    Refused(Refusal),
-}
-
-// A call of a planner: an add with its block, or a take.
-#[derive(Clone, Copy)]
+// A call of a planner: an add with its block, or a take. No Option: a take is a call like an add, and not the lack of one.
+#[derive(Clone, Copy, Debug, PartialEq, Eq, Hash)]
 pub enum Call {
     Add(Block),
     Take,
-}
-
-// The answer of a call: that of an add or of a take.
-#[derive(Clone, Copy)]
-pub enum Answer {
-    Accepted,
-    Gave(Given),
-    Refused(Refusal),
 }

@@ -1,6 +1,6 @@
 -- The lines of rows, one behind the other: as they are stored, and that those of an accepted tape are its listing's. From the laws of texts stored and of
 -- an accepted tape.
-use mathlib.Core.Path.{◌≡◌, refl, sym, ap, subst, ◌∙◌}
+use mathlib.Core.Path.{◌≡◌, refl, sym, ap, ◌∙◌}
 use mathlib.Core.Bool.{Bool, cond}
 use mathlib.Core.List.{List, ◌++◌, append_assoc, []}
 use Prim.Native.Nat.{ℕ, zero, suc, ◌+◌, ◌-◌, ◌*◌, ◌≤◌, ◌<◌, min}
@@ -14,7 +14,6 @@ use lib.ListN.{length, drop, length-append}
 use lib.Seq.{get_or-drop, drop-drop, drop-length}
 use Rattle.profile.specs.Line.{number_at}
 use Rattle.machine.specs.declared.Block.{Block}
-use Rattle.machine.specs.declared.Ramp.{Ramp}
 use Rattle.line.specs.Answers.{given_of, ramp_between}
 use Rattle.line.specs.declared.Given.{Given}
 use Rattle.text.specs.Text.{decimal, row}
@@ -27,22 +26,13 @@ use Rattle.tape.specs.Answers.{tape_refusal}
 use Rattle.tape.proofs.Faults.{length_blocks, drop_blocks}
 use Rattle.tapeplan.specs.Planned.{tape_machine, tape_plan}
 use Rattle.tapeplan.specs.Sheet.{measured_at, measured_of}
-use Rattle.tapeplan.specs.declared.Measured.{Measured}
 use Rattle.tape_rows.specs.Rows.{row_of}
 use Rattle.listing.specs.Listing.{lines_of}
 use Rattle.listing.specs.Parts.{line_of, listed_row, part_blocks, row_lines}
 use Rattle.listing.proofs.Plans.{row_between}
+use Rattle.tapeplan.specs.declared.Measured.{Measured}
 
--- the line of a row, from what is read of it
-pub row_put : (sheet plan : List ℕ) (k : ℕ) {r : Measured} {ramp : Ramp} {text after : List ℕ} {at end : ℕ} → r ≡ measured_at sheet k
-    → ramp ≡ ramp_between r.numbers (number_at plan k) (number_at plan (k + 1))
-    → WroteLine (row (listed_numbers (listed_row r (number_at plan k) (number_at plan (k + 1)) ramp))) text at end after → WroteLine (line_of sheet plan k) text at end after
-row_put sheet plan k {text} {after} {at} {end} e f w =
-    let entry = number_at plan k in
-    let exit = number_at plan (k + 1) in
-    subst (λ (t : List ℕ). WroteLine t text at end after) (λ i. row (listed_numbers (listed_row (e i) entry exit ((f ∙ (λ j. ramp_between (e j).numbers entry exit)) i)))) w
-
-module _ (blocks : ℕ) (sheet plan : List ℕ) where
+module _ (blocks : ℕ) (sheet : List Measured) (plan : List ℕ) where
   -- the line of block k, and none behind the last
   abbrev pub line_at : ℕ → List ℕ
   line_at k = cond (ltb k blocks) (line_of sheet plan k) []
@@ -143,7 +133,7 @@ unfolding given_text row
 given_some g = omega (arith, length_line (decimal g.block.mark) (drop 1 (listed_numbers (listed_of g))))
 
 -- and they are those of its rows, whatever follows them and its plan
-module _ (s loaded : List ℕ) {blocks : ℕ} (sheet plan : List ℕ) (passed : tape_refusal s ≡ 0) (count : blocks ≡ records_in s)
+module _ (s loaded : List ℕ) {blocks : ℕ} (sheet : List Measured) (plan : List ℕ) (passed : tape_refusal s ≡ 0) (count : blocks ≡ records_in s)
     (measured : (k : ℕ) → k < records_in s → measured_at sheet k ≡ measured_of (tape_machine s loaded) s k)
     (same : (k : ℕ) → k ≤ records_in s → number_at plan k ≡ number_at (tape_plan s loaded) k) where
   row_line : (k : ℕ) → k < records_in s → line_at blocks sheet plan k ≡ given_text (row_of s loaded k)

@@ -1,16 +1,17 @@
--- A part of a listing, stored: by the answer of planning the tape, with the header in part 0. From the laws of texts stored.
-use mathlib.Core.Path.{◌≡◌, refl, sym, ap, subst}
+-- A part of a listing, stored, with the header in part 0. From the laws of texts stored.
+use mathlib.Core.Path.{◌≡◌, refl, ap}
 use mathlib.Core.List.{List, []}
 use Prim.Native.Nat.{ℕ, zero, suc, ◌*◌, ◌≤◌, ◌<◌, zero-le}
 use native.Mathlib.Omega.{arith}
 use lib.ListN.{length}
 use Rattle.text.specs.Store.{Stored}
 use Rattle.text.proofs.Store.{stored_next, stored_none}
-use Rattle.tapeplan.specs.declared.TapePlanned.{TapePlanned}
-use Rattle.tapeplan.specs.declared.TapePlanned.TheVariants.{Planned, Refused}
+use Rattle.std.specs.Prelude.{⊤, Result, Ok, Err}
+use Rattle.display.specs.declared.RefusedAt.{RefusedAt}
 use Rattle.listing.specs.Parts.{answer_part, head_in, header_size, most_parts, only_first, part_blocks, part_lines, part_of, planned_part, row_lines}
 use Rattle.listing.specs.declared.Listing.{Listing}
 use Rattle.listing.proofs.Lengths.{header_length}
+use Rattle.tapeplan.specs.declared.Measured.{Measured}
 
 -- a text in part 0, stored, and none in a later part
 pub first_stored : (p : ℕ) {text t u after : List ℕ} {end : ℕ} → (0 < p → ⊥) → t ≡ u → Stored text 0 t end after → Stored text 0 (only_first p u) end after
@@ -27,12 +28,12 @@ head_most zero = omega (arith, header_length)
 head_most (suc p) = zero-le
 
 -- no part from part 16 on,
-none_behind : (blocks : ℕ) (sheet plan : List ℕ) (p : ℕ) → most_parts ≤ p → planned_part blocks sheet plan p ≡ []
+none_behind : (blocks : ℕ) (sheet : List Measured) (plan : List ℕ) (p : ℕ) → most_parts ≤ p → planned_part blocks sheet plan p ≡ []
 unfolding row_lines planned_part
 none_behind blocks sheet plan zero h = absurd (omega arith)
 none_behind blocks sheet plan (suc p) h = let none : part_lines (suc p) ≡ 0 = omega arith in ap (row_lines blocks sheet plan (part_blocks * suc p)) none
 
-module _ (blocks : ℕ) (sheet plan : List ℕ) (p : ℕ) where
+module _ (blocks : ℕ) (sheet : List Measured) (plan : List ℕ) (p : ℕ) where
   pub part_behind : (text : List ℕ) → most_parts ≤ p → Stored text 0 (planned_part blocks sheet plan p) 0 text
   part_behind text h = rw (none_behind blocks sheet plan p h) stored_none
 
@@ -44,16 +45,11 @@ module _ (blocks : ℕ) (sheet plan : List ℕ) (p : ℕ) where
       let size : part_lines p ≡ part_blocks = omega arith in
       rw size (stored_next r q zero-le)
 
--- a part, by the answer of planning the tape
-pub part_answered : (listing : Listing) {a : TapePlanned} {text after : List ℕ} {end : ℕ} (sheet plan : List ℕ) (p : ℕ) → listing.answer ≡ a
-    → Stored text 0 (answer_part a listing sheet plan p) end after → Stored text 0 (part_of listing sheet plan p) end after
-part_answered listing {text} {after} {end} sheet plan p is r = subst (λ (b : TapePlanned). Stored text 0 (answer_part b listing sheet plan p) end after) (sym is) r
-
 -- No listing has a part from part 16 on.
-pub parts_bounded : (listing : Listing) (sheet plan : List ℕ) (p : ℕ) → most_parts ≤ p → part_of listing sheet plan p ≡ []
-parts_bounded listing sheet plan p h = by listing.answer p h
+pub parts_bounded : (listing : Listing) (sheet : List Measured) (plan : List ℕ) (p : ℕ) → most_parts ≤ p → part_of listing sheet plan p ≡ []
+parts_bounded listing sheet plan p h = by listing.planned p h
   where
-    by : (a : TapePlanned) (q : ℕ) → most_parts ≤ q → answer_part a listing sheet plan q ≡ []
+    by : (a : Result ⊤ RefusedAt) (q : ℕ) → most_parts ≤ q → answer_part a listing sheet plan q ≡ []
     by a zero l = absurd (omega arith)
-    by Planned (suc q) l = none_behind listing.blocks sheet plan (suc q) l
-    by (Refused why place) (suc q) l = refl
+    by (Ok tt) (suc q) l = none_behind listing.blocks sheet plan (suc q) l
+    by (Err r) (suc q) l = refl

@@ -16,26 +16,26 @@ use Rattle.tapeplan.specs.Sheet.{over}
 use Rattle.tapeplan.proofs.Answered.{whole_passed}
 use Rattle.tapeplan.proofs.Plans.{accepted_records}
 use Rattle.tapeplan.proofs.Wholes.{planned_passed, planned_speeds}
-use Rattle.display.specs.declared.Refusal.{Refusal}
 use Rattle.text.specs.Text.{header, refused_at, refused_words}
 use Rattle.text.proofs.Lines.{length_line}
 use Rattle.tape.specs.Tape.{records_in}
-use Rattle.tapeplan.specs.declared.TapePlanned.{TapePlanned}
-use Rattle.tapeplan.specs.declared.TapePlanned.TheVariants.{Planned, Refused}
+use Rattle.std.specs.Prelude.{⊤, Result, Ok, Err}
+use Rattle.display.specs.declared.RefusedAt.{RefusedAt}
 use Rattle.listing.specs.Listing.{listing_of}
 use Rattle.listing.specs.Parts.{ListingFrom, answer_part, head_in, most_parts, only_first, part_blocks, part_lines, part_of, parts_of, planned_part, row_lines}
 use Rattle.listing.specs.declared.Listing.{Listing}
 use Rattle.listing.proofs.Lines.{lines_from, lines_accepted, lines_beyond, lines_both, lines_some}
 use Rattle.listing.proofs.Answers.{listing_accepted, listing_refused}
 use Rattle.listing.proofs.Lengths.{header_length}
+use Rattle.tapeplan.specs.declared.Measured.{Measured}
 
 -- A tape that is refused leaves the sheet and the plan that were lent.
-pub refused_leaves : {s loaded sheet sheet' before after : List ℕ} {listing : Listing} → ListingFrom s loaded sheet sheet' before after listing → 0 < whole_refusal s loaded
+pub refused_leaves : {s loaded : List ℕ} {sheet sheet' : List Measured} {before after : List ℕ} {listing : Listing} → ListingFrom s loaded sheet sheet' before after listing → 0 < whole_refusal s loaded
     → (sheet' ≡ sheet) × (after ≡ before)
 refused_leaves {s} {loaded} {before} from h = (from.lent.kept h, from.lent.whole.list ∙ above_zero (over (tape_plan s loaded) before) before h)
 
 -- some parts and more of them
-parts_both : (listing : Listing) (sheet plan : List ℕ) (p n m : ℕ) → parts_of listing sheet plan p (n + m) ≡ parts_of listing sheet plan p n ++ parts_of listing sheet plan (p + n) m
+parts_both : (listing : Listing) (sheet : List Measured) (plan : List ℕ) (p n m : ℕ) → parts_of listing sheet plan p (n + m) ≡ parts_of listing sheet plan p n ++ parts_of listing sheet plan (p + n) m
 unfolding parts_of
 parts_both listing sheet plan p zero m = rw (zero-add m, add-zero p)
 parts_both listing sheet plan p (suc n) m =
@@ -47,18 +47,18 @@ parts_both listing sheet plan p (suc n) m =
     )
 
 -- parts that are all empty
-parts_none : (listing : Listing) (sheet plan : List ℕ) (p n : ℕ) → ((j : ℕ) → p ≤ j → part_of listing sheet plan j ≡ []) → parts_of listing sheet plan p n ≡ []
+parts_none : (listing : Listing) (sheet : List Measured) (plan : List ℕ) (p n : ℕ) → ((j : ℕ) → p ≤ j → part_of listing sheet plan j ≡ []) → parts_of listing sheet plan p n ≡ []
 unfolding parts_of
 parts_none listing sheet plan p zero h = refl
 parts_none listing sheet plan p (suc n) h = λ i. h p (omega arith) i ++ parts_none listing sheet plan (suc p) n (λ j l. h j (omega arith)) i
 
-module _ (s loaded lent sheet before plan : List ℕ) (listing : Listing) (from : ListingFrom s loaded lent sheet before plan listing) where
+module _ (s loaded : List ℕ) (lent sheet : List Measured) (before plan : List ℕ) (listing : Listing) (from : ListingFrom s loaded lent sheet before plan listing) where
   -- the lines of n blocks from block k on
   abbrev lines : (k n : ℕ) → List ℕ
   lines k n = row_lines listing.blocks sheet plan k n
 
   -- a tape that was planned
-  module _ (is : listing.answer ≡ Planned) where
+  module _ (is : listing.planned ≡ Ok tt) where
     passed : whole_refusal s loaded ≡ 0
     passed = planned_passed from.lent.whole is
 
@@ -73,7 +73,7 @@ module _ (s loaded lent sheet before plan : List ℕ) (listing : Listing) (from 
 
     part_is : (p : ℕ) → part_of listing sheet plan p ≡ head_in p ++ lines (part_blocks * p) (part_lines p)
     unfolding planned_part
-    part_is p = ap (λ (a : TapePlanned). answer_part a listing sheet plan p) is
+    part_is p = ap (λ (a : Result ⊤ RefusedAt). answer_part a listing sheet plan p) is
 
     -- the lines of the parts behind part 0
     parts_behind : (p n : ℕ) → suc p + n ≤ most_parts → parts_of listing sheet plan (suc p) n ≡ lines (part_blocks * suc p) (part_blocks * n)
@@ -130,12 +130,12 @@ module _ (s loaded lent sheet before plan : List ℕ) (listing : Listing) (from 
         listed = go (dec_lt (part_blocks * suc p) (records_in s))
 
   -- a tape that was refused
-  module _ (why : Refusal) (place : ℕ) (is : listing.answer ≡ Refused why place) where
-    line_is : (p : ℕ) → part_of listing sheet plan p ≡ only_first p (refused_at (refusal_number why) place)
-    line_is p = ap (λ (a : TapePlanned). answer_part a listing sheet plan p) is
+  module _ (r : RefusedAt) (is : listing.planned ≡ Err r) where
+    line_is : (p : ℕ) → part_of listing sheet plan p ≡ only_first p (refused_at (refusal_number r.why) r.place)
+    line_is p = ap (λ (a : Result ⊤ RefusedAt). answer_part a listing sheet plan p) is
 
     end_refused : (p : ℕ) → part_of listing sheet plan p ≡ [] → (j : ℕ) → p ≤ j → part_of listing sheet plan j ≡ []
-    end_refused zero e j h = absurd (omega (arith, ap length (sym (line_is 0) ∙ e), length_line (refused_words (refusal_number why)) (place ∷ [])))
+    end_refused zero e j h = absurd (omega (arith, ap length (sym (line_is 0) ∙ e), length_line (refused_words (refusal_number r.why)) (r.place ∷ [])))
     end_refused (suc p) e zero h = absurd (omega arith)
     end_refused (suc p) e (suc j) h = line_is (suc j)
 
@@ -143,7 +143,7 @@ module _ (s loaded lent sheet before plan : List ℕ) (listing : Listing) (from 
     unfolding parts_of
     parts_refused =
         (λ i. line_is 0 i ++ parts_none listing sheet plan 1 (most_parts - 1) behind i)
-        ∙ append-nil (refused_at (refusal_number why) place) ∙ sym (listing_refused s loaded why place (sym (ap planned_means is) ∙ from.lent.whole.fault))
+        ∙ append-nil (refused_at (refusal_number r.why) r.place) ∙ sym (listing_refused s loaded r.why r.place (sym (ap planned_means is) ∙ from.lent.whole.fault))
       where
         behind : (j : ℕ) → 1 ≤ j → part_of listing sheet plan j ≡ []
         behind zero h = absurd (omega arith)
@@ -151,18 +151,18 @@ module _ (s loaded lent sheet before plan : List ℕ) (listing : Listing) (from 
 
   -- All 16 parts of a listing, joined, are the listing of the tape that it was made from; behind an empty part every part is empty.
   pub parts_whole : parts_of listing sheet plan 0 most_parts ≡ listing_of s loaded
-  parts_whole = by listing.answer refl
+  parts_whole = by listing.planned refl
     where
-      by : (a : TapePlanned) → listing.answer ≡ a → parts_of listing sheet plan 0 most_parts ≡ listing_of s loaded
-      by Planned is = parts_planned is
-      by (Refused why place) is = parts_refused why place is
+      by : (a : Result ⊤ RefusedAt) → listing.planned ≡ a → parts_of listing sheet plan 0 most_parts ≡ listing_of s loaded
+      by (Ok tt) is = parts_planned is
+      by (Err r) is = parts_refused r is
 
   pub parts_end : (p : ℕ) → part_of listing sheet plan p ≡ [] → (j : ℕ) → p ≤ j → part_of listing sheet plan j ≡ []
-  parts_end p e = by listing.answer refl
+  parts_end p e = by listing.planned refl
     where
-      by : (a : TapePlanned) → listing.answer ≡ a → (j : ℕ) → p ≤ j → part_of listing sheet plan j ≡ []
-      by Planned is = end_planned is p e
-      by (Refused why place) is = end_refused why place is p e
+      by : (a : Result ⊤ RefusedAt) → listing.planned ≡ a → (j : ℕ) → p ≤ j → part_of listing sheet plan j ≡ []
+      by (Ok tt) is = end_planned is p e
+      by (Err r) is = end_refused r is p e
 
   -- So what is written part after part, until a part is empty or 16 are written, is the whole listing.
   pub listing_written : (n : ℕ) → n ≤ most_parts → (n < most_parts → part_of listing sheet plan n ≡ []) → parts_of listing sheet plan 0 n ≡ listing_of s loaded

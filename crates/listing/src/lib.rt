@@ -7,20 +7,17 @@ ghost use Rattle.text.specs.Text.{refused_at};
 ghost use Rattle.text.specs.Store.{Stored};
 ghost use Rattle.display.specs.Display.{refusal_number};
 ghost use Rattle.tape.specs.Answers.{most_blocks};
-ghost use Rattle.tapeplan.specs.Planned.{most_junctions};
-ghost use Rattle.tapeplan.specs.Sheet.{rows_in, sheet_size};
 ghost use Rattle.given_text.specs.Given.{WroteLine, most_given};
 ghost use Rattle.listing.specs.Parts.{LentTape, ListingFrom, head_in, header_size, line_of, only_first, part_blocks, part_of, part_size, planned_part, row_lines};
 
-use arith::whole::fewer;
-use display::{Refusal, refusal_number};
+use display::{RefusedAt, refusal_number};
 use given_text::{LINE, Listed, store_listed};
 use ramps::ramp_between;
 use tape::MOST_BLOCKS;
 use tape::records::records_in;
-use tapeplan::TapePlanned;
-use tapeplan::sheet::{SHEET, measured_at};
+use tapeplan::sheet::SHEET;
 use tapeplan::whole::{JUNCTIONS, check_whole, plan_on_work_sheet};
+use tapeplan::{Measured, Planned};
 use text::{behind, put_header, put_refused_at};
 
 // Lines of a part at most, and parts of a listing at most.
@@ -32,14 +29,14 @@ const HEADER: usize = 49;
 
 pub const TEXT: usize = HEADER + BLOCKS * LINE;
 // Stores the line of block k, from its row of the sheet and the plan's numbers at its two ends.
-fn put_block(sheet: &[u64], plan: &[u64], k: usize, text: &mut [u8], at: usize) -> usize
-    requires { (k < rows_in sheet.now) × (k + 1 < length plan.now) × (at + most_given ≤ length text.old) }
-    ensures { WroteLine (line_of sheet.now plan.now k) text.old at result text.new }
+fn put_block(tape: Planned, k: usize, text: &mut [u8], at: usize) -> usize
+    requires { (k < most_blocks) × (at + most_given ≤ length text.old) }
+    ensures { WroteLine (line_of tape.entry.sheet.now tape.entry.plan.now k) text.old at result text.new }
 {
-    let row = measured_at(sheet, k);
+    let row = tape.row(k);
     let n = row.numbers;
-    let entry = plan[k];
-    let exit = plan[k + 1];
+    let entry = tape.plan[k];
+    let exit = tape.plan[k + 1];
     let ramp = ramp_between(n, entry, exit);
     store_listed(
         text,
@@ -48,38 +45,28 @@ fn put_block(sheet: &[u64], plan: &[u64], k: usize, text: &mut [u8], at: usize) 
             mark: row.mark,
             length: n.length,
             accel: n.accel,
-            entry: entry,
-            exit: exit,
-            ramp: ramp,
+            entry,
+            exit,
+            ramp,
         },
     )
 }
 
 // Stores the lines of 128 blocks from block `first` on, as far as there are so many.
-fn put_lines(
-    blocks: usize,
-    sheet: &[u64],
-    plan: &[u64],
-    first: usize,
-    text: &mut [u8],
-    at: usize,
-) -> usize
-    requires { (length sheet.now ≡ sheet_size) × (length plan.now ≡ most_junctions) × (first + part_blocks ≤ most_blocks) × (at ≤ header_size) × (length text.old ≡ part_size) }
-    ensures { Stored text.old at (row_lines blocks sheet.now plan.now first part_blocks) result text.new }
+fn put_lines(blocks: usize, tape: Planned, first: usize, text: &mut [u8; TEXT], at: usize) -> usize
+    requires { (first + part_blocks ≤ most_blocks) × (at ≤ header_size) }
+    ensures { Stored text.old at (row_lines blocks tape.entry.sheet.now tape.entry.plan.now first part_blocks) result text.new }
 {
-    let to = fewer(first + BLOCKS, blocks);
+    let to = (first + BLOCKS).min(blocks);
     let mut end = at;
-    let mut k = first;
-    while k < to {
-        end = put_block(sheet, plan, k, text, end);
-        k += 1;
+    for k in first..to {
+        end = put_block(tape, k, text, end);
     }
     end
 }
 
 // Stores the header in part 0.
-fn put_head(p: usize, text: &mut [u8]) -> usize
-    requires { length text.old ≡ part_size }
+fn put_head(p: usize, text: &mut [u8; TEXT]) -> usize
     ensures { Stored text.old 0 (head_in p) result text.new }
 {
     if 0 < p {
@@ -89,49 +76,49 @@ fn put_head(p: usize, text: &mut [u8]) -> usize
 }
 
 // Stores the line of a refusal in part 0.
-fn put_refusal(p: usize, why: Refusal, place: usize, text: &mut [u8]) -> usize
-    requires { length text.old ≡ part_size }
-    ensures { Stored text.old 0 (only_first p (refused_at (refusal_number why) place)) result text.new }
+fn put_refusal(p: usize, r: RefusedAt, text: &mut [u8; TEXT]) -> usize
+    ensures { Stored text.old 0 (only_first p (refused_at (refusal_number r.why) r.place)) result text.new }
 {
     if 0 < p {
         return 0;
     }
     behind(
-        put_refused_at(text, 0, refusal_number(why), place as u64),
+        put_refused_at(text, 0, refusal_number(r.why), r.place as u64),
         0,
     )
 }
 
 // Stores a part of a tape that was planned.
-fn put_part(blocks: usize, sheet: &[u64], plan: &[u64], p: usize, text: &mut [u8]) -> usize
-    requires { (length sheet.now ≡ sheet_size) × (length plan.now ≡ most_junctions) × (length text.old ≡ part_size) }
-    ensures { Stored text.old 0 (planned_part blocks sheet.now plan.now p) result text.new }
+fn put_part(blocks: usize, tape: Planned, p: usize, text: &mut [u8; TEXT]) -> usize
+    ensures { Stored text.old 0 (planned_part blocks tape.entry.sheet.now tape.entry.plan.now p) result text.new }
 {
     if PARTS <= p {
         return 0;
     }
     let at = put_head(p, text);
-    put_lines(blocks, sheet, plan, BLOCKS * p, text, at)
+    put_lines(blocks, tape, BLOCKS * p, text, at)
 }
 
 // Plans a tape into a lent sheet and a lent plan. On a refusal both hold what they held: the tape is checked before the planner
 // takes the sheet for its work.
-fn plan_lent(s: &[u8], steps: &[u8], sheet: &mut [u64], plan: &mut [u64]) -> TapePlanned
-    requires { (length sheet.old ≡ sheet_size) × (length plan.old ≡ most_junctions) }
+fn plan_lent(
+    s: &[u8],
+    steps: &[u8],
+    sheet: &mut [Measured; SHEET],
+    plan: &mut [u64; JUNCTIONS],
+) -> Result<(), RefusedAt>
     ensures { LentTape s.now steps.now sheet.old sheet.new plan.old plan.new result }
 {
-    match check_whole(s, steps) {
-        TapePlanned::Refused(why, place) => TapePlanned::Refused(why, place),
-        TapePlanned::Planned => plan_on_work_sheet(s, steps, sheet, plan),
-    }
+    check_whole(s, steps)?;
+    plan_on_work_sheet(s, steps, sheet, plan)
 }
 
 // What a tape's listing is made from, besides its sheet and its plan. Only `of` makes one.
-#[derive(Clone, Copy)]
+#[derive(Clone, Copy, Debug, PartialEq, Eq, Hash)]
 pub struct Listing {
-    // the answer of planning the tape
-    answer: TapePlanned,
-    // how many blocks the tape has
+    // that the tape was planned, or why not
+    planned: Result<(), RefusedAt>,
+    // how many blocks the tape has; the number of blocks is promised of a refused tape too
     blocks: usize,
 }
 
@@ -142,34 +129,33 @@ impl Listing {
     pub fn of(
         s: &[u8],
         steps: &[u8],
-        sheet: &mut [u64; SHEET],
+        sheet: &mut [Measured; SHEET],
         plan: &mut [u64; JUNCTIONS],
     ) -> Listing
         ensures { ListingFrom s.now steps.now sheet.old sheet.new plan.old plan.new result }
     {
-        let answer = plan_lent(s, steps, sheet, plan);
+        let planned = plan_lent(s, steps, sheet, plan);
         Listing {
-            answer: answer,
-            blocks: fewer(records_in(s), MOST_BLOCKS),
+            planned,
+            blocks: records_in(s).min(MOST_BLOCKS),
         }
     }
 
     // Stores part p, counted from 0, of the listing of the tape that this, the sheet and the plan were made from at the beginning
     // of the lent text, whose other bytes stay as they are. Returns how many bytes it has: 0 after the last part, and then of
-    // every later one.
+    // every later one. No Option of it, and sheet and plan apart: the laws `parts_end` and `listing_written` speak of them so.
     pub fn part(
         self,
-        sheet: &[u64; SHEET],
+        sheet: &[Measured; SHEET],
         plan: &[u64; JUNCTIONS],
         p: usize,
         text: &mut [u8; TEXT],
     ) -> usize
         ensures { Stored text.old 0 (part_of self sheet.now plan.now p) result text.new }
     {
-        let answer = self.answer;
-        match answer {
-            TapePlanned::Refused(why, place) => put_refusal(p, why, place, text),
-            TapePlanned::Planned => put_part(self.blocks, sheet, plan, p, text),
+        match self.planned {
+            Ok(()) => put_part(self.blocks, Planned { sheet, plan }, p, text),
+            Err(r) => put_refusal(p, r, text),
         }
     }
 }

@@ -1,6 +1,6 @@
 -- What the machine's calls answer: a value, or a number on the display.
 use Rattle.std.specs.Prelude.{ℕ, List}
-use Rattle.display.specs.Display.{refusal_number, ◌then◌, Outcome, or_refused, given, refused}
+use Rattle.display.specs.Display.{◌then◌, Outcome, or_refused}
 use Rattle.machine.specs.Checks.{limits_refusal, block_refusal}
 use Rattle.machine.specs.Numbers.{numbers_of, junction_cap}
 use Rattle.machine.specs.Torque.{machine_of, machine_refusal, steps_refusal}
@@ -8,25 +8,6 @@ use Rattle.machine.specs.declared.Limits.{Limits}
 use Rattle.machine.specs.declared.Machine.{Machine}
 use Rattle.machine.specs.declared.Block.{Block}
 use Rattle.machine.specs.declared.Numbers.{Numbers}
-use Rattle.machine.specs.declared.MachineAnswer.{MachineAnswer}
-use Rattle.machine.specs.declared.MachineAnswer.TheVariants as machine
-use Rattle.machine.specs.declared.NumbersAnswer.{NumbersAnswer}
-use Rattle.machine.specs.declared.NumbersAnswer.TheVariants as numbers
-use Rattle.machine.specs.declared.CapAnswer.{CapAnswer}
-use Rattle.machine.specs.declared.CapAnswer.TheVariants as cap
-
--- the number and the values of each answer
-abbrev pub machine_means : MachineAnswer → Outcome ℕ Machine
-machine_means (machine.Of m) = given m
-machine_means (machine.Refused r) = refused (refusal_number r)
-
-abbrev pub numbers_means : NumbersAnswer → Outcome ℕ Numbers
-numbers_means (numbers.Of n) = given n
-numbers_means (numbers.Refused r) = refused (refusal_number r)
-
-abbrev pub cap_means : CapAnswer → Outcome ℕ ℕ
-cap_means (cap.Of q) = given q
-cap_means (cap.Refused r) = refused (refusal_number r)
 
 -- refusal 1, then the first of 2 to 6 that the block meets, else 0
 abbrev pub call_refusal : Limits → Block → ℕ

@@ -1,6 +1,6 @@
 -- A line of blocks as a profile sees it: the junction cap where each block begins, and its reach, in (µm/s)².
 use Rattle.std.specs.Prelude.{List, ◌∷◌, []}
-use Rattle.profile.specs.Line.{Span}
+use Rattle.profile.specs.declared.Span.{Span}
 use Rattle.machine.specs.Numbers.{junction_cap, reach_of}
 use Rattle.machine.specs.declared.Machine.{Machine}
 use Rattle.machine.specs.declared.Block.{Block}

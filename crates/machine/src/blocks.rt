@@ -15,16 +15,16 @@ pub fn plain_block(x: i64, y: i64, z: i64, feed: u64, radius: u64, mark: u64) ->
     ensures { result ≡ plain_block x y z feed radius mark }
 {
     Block {
-        x: x,
-        y: y,
-        z: z,
-        feed: feed,
-        radius: radius,
-        mark: mark,
+        x,
+        y,
+        z,
+        feed,
+        radius,
+        mark,
     }
 }
 
-// The block with a label, 21 bits.
+// The block with a label, 21 bits. Today the label is the mark; `label_of` and this are the one place to change for another.
 pub fn labelled_block(x: i64, y: i64, z: i64, feed: u64, radius: u64, label: u64) -> Block
     ensures { result ≡ labelled_block x y z feed radius label }
 {
@@ -38,9 +38,9 @@ pub fn label_of(b: Block) -> u64
     b.mark
 }
 
-// What stands for a block where there is none.
+// What stands for a block where there is none: `default` by the name of its definition.
 pub fn no_block() -> Block
     ensures { result ≡ no_block }
 {
-    plain_block(0, 0, 0, 0, 0, 0)
+    Block::default()
 }

@@ -5,8 +5,7 @@ ghost use Rattle.machine.specs.Checks.{axes_within, block_refusal, greatest_move
 
 use crate::measure::moves_of;
 use crate::{Axes, Block, Limits};
-use arith::whole::larger;
-use display::{Checked, Refusal};
+use display::Refusal;
 
 // Smallest and greatest acceleration limit, µm/s².
 pub const LEAST_ACCEL: u64 = 1;
@@ -43,7 +42,7 @@ pub const MOST_MARK: u64 = 2_097_151;
 pub(crate) fn is_within(low: u64, high: u64, value: u64) -> bool
     ensures { result ≡ within low high value }
 {
-    low <= value && value <= high
+    (low..=high).contains(&value)
 }
 
 // Whether the three values are from `low` to `high`.
@@ -54,20 +53,18 @@ fn are_within(low: u64, high: u64, a: Axes) -> bool
 }
 
 // Refusal 1, or none.
-pub fn check_limits(l: Limits) -> Checked
+pub fn check_limits(l: Limits) -> Result<(), Refusal>
     ensures { checked_means result ≡ limits_refusal l }
 {
-    let accel = l.accel;
-    let speed = l.speed;
-    let axes = are_within(LEAST_ACCEL, MOST_ACCEL, accel)
-        & are_within(LEAST_SPEED, MOST_SPEED, speed);
+    let axes = are_within(LEAST_ACCEL, MOST_ACCEL, l.accel)
+        & are_within(LEAST_SPEED, MOST_SPEED, l.speed);
     let rest = is_within(LEAST_JUMP, MOST_JUMP, l.jump)
         & is_within(LEAST_CHORD, MOST_CHORD, l.chord)
         & is_within(LEAST_TICK, MOST_TICK, l.tick);
     if axes & rest {
-        Checked::Passed
+        Ok(())
     } else {
-        Checked::Refused(Refusal::Limits)
+        Err(Refusal::Limits)
     }
 }
 
@@ -76,28 +73,28 @@ fn greatest_move(b: Block) -> u64
     ensures { result ≡ greatest_move b }
 {
     let m = moves_of(b);
-    larger(m.x, larger(m.y, m.z))
+    m.x.max(m.y.max(m.z))
 }
 
 // The first of refusals 2 to 6 that a block meets, or none.
-pub fn check_block(b: Block) -> Checked
+pub fn check_block(b: Block) -> Result<(), Refusal>
     ensures { checked_means result ≡ block_refusal b }
 {
     let most = greatest_move(b);
     if most == 0 {
-        return Checked::Refused(Refusal::Still);
+        return Err(Refusal::Still);
     }
     if MOST_MOVE < most {
-        return Checked::Refused(Refusal::Long);
+        return Err(Refusal::Long);
     }
     if !is_within(LEAST_FEED, MOST_FEED, b.feed) {
-        return Checked::Refused(Refusal::Feed);
+        return Err(Refusal::Feed);
     }
     if MOST_RADIUS < b.radius {
-        return Checked::Refused(Refusal::Radius);
+        return Err(Refusal::Radius);
     }
     if MOST_MARK < b.mark {
-        return Checked::Refused(Refusal::Mark);
+        return Err(Refusal::Mark);
     }
-    Checked::Passed
+    Ok(())
 }

@@ -1,4 +1,5 @@
-// The corner between two blocks.
+// The corner between two blocks. That moves are small is a clause of each function and no type, since `planner` has cut blocks, and
+// a tape checked ones, that meet it for different reasons.
 ghost use Rattle.std.specs.Prelude.{◌≡◌, ◌*◌, ◌^◌, ◌<◌, min};
 ghost use Rattle.machine.specs.Checks.{block_refusal, moves_of};
 ghost use Rattle.machine.specs.Numbers.{AxesBelow, Joinable, LimitsBelow, corner_beside, corner_from, dot_of, junction_cap, junction_from, turn_from, under_cap};
@@ -8,7 +9,6 @@ use crate::torque::built_in;
 use crate::{Block, Limits, Numbers};
 use arith::quotient::capped_quotient;
 use arith::signed::{gap, plus, times};
-use arith::whole::smaller;
 
 // The square of the parts of a µm in which a length is counted.
 const UNIT_SQUARE: i64 = 1;
@@ -18,13 +18,7 @@ fn dot(a: Block, b: Block) -> i64
     requires { AxesBelow (2 ^ 21) (moves_of a) × AxesBelow (2 ^ 21) (moves_of b) }
     ensures { result ≡ dot_of a b }
 {
-    let ax = a.x;
-    let ay = a.y;
-    let az = a.z;
-    let bx = b.x;
-    let by = b.y;
-    let bz = b.z;
-    plus(plus(times(ax, bx), times(ay, by)), times(az, bz))
+    plus(plus(times(a.x, b.x), times(a.y, b.y)), times(a.z, b.z))
 }
 
 // The product of the lengths less that sum, or 0.
@@ -54,7 +48,7 @@ pub fn junction_from(jump: u64, a: Block, na: Numbers, b: Block, nb: Numbers) ->
     requires { Joinable jump a na b nb }
     ensures { result ≡ junction_from jump a na b nb }
 {
-    let cap = smaller(na.cap, nb.cap);
+    let cap = na.cap.min(nb.cap);
     under_corner(cap, jump, a, na.length, b, nb.length)
 }
 
@@ -64,7 +58,7 @@ pub fn corner_beside(jump: u64, a: Block, na: Numbers, b: Block, nb: Numbers) ->
     requires { Joinable jump a na b nb × (nb.cap < 2 ^ 62) }
     ensures { result ≡ corner_beside jump a na b nb }
 {
-    let least = smaller(na.cap, nb.cap);
+    let least = na.cap.min(nb.cap);
     under_corner(least + 1, jump, a, na.length, b, nb.length)
 }
 
@@ -72,7 +66,7 @@ pub fn corner_beside(jump: u64, a: Block, na: Numbers, b: Block, nb: Numbers) ->
 pub fn cap_beside(na: Numbers, nb: Numbers, corner: u64) -> u64
     ensures { result ≡ min (min na.cap nb.cap) corner }
 {
-    smaller(smaller(na.cap, nb.cap), corner)
+    na.cap.min(nb.cap).min(corner)
 }
 
 // The junction cap between two blocks that pass 2 to 6. No torque plays a part.

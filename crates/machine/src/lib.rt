@@ -10,10 +10,8 @@ pub mod lists;
 pub mod measure;
 pub mod torque;
 
-use display::Refusal;
-
 // A quantity of each axis.
-#[derive(Clone, Copy)]
+#[derive(Clone, Copy, Debug, PartialEq, Eq, Hash)]
 pub struct Axes {
     pub x: u64,
     pub y: u64,
@@ -21,7 +19,7 @@ pub struct Axes {
 }
 
 // The limits of a machine.
-#[derive(Clone, Copy)]
+#[derive(Clone, Copy, Debug, PartialEq, Eq, Hash)]
 pub struct Limits {
     // greatest acceleration of each axis, µm/s²
     pub accel: Axes,
@@ -36,16 +34,16 @@ pub struct Limits {
 }
 
 // A machine: its limits and the torque of its motors.
-#[derive(Clone, Copy)]
+#[derive(Clone, Copy, Debug, PartialEq, Eq, Hash)]
 pub struct Machine {
     pub limits: Limits,
     // percent of the acceleration that the motors give at each of eight speed steps, a byte for each,
-    // the first step's most significant
+    // the first step's most significant: one number, as a planner's memory keeps it
     pub torque: u64,
 }
 
 // A straight move of the table.
-#[derive(Clone, Copy)]
+#[derive(Clone, Copy, Debug, Default, PartialEq, Eq, Hash)]
 pub struct Block {
     // the move on each axis, µm
     pub x: i64,
@@ -53,14 +51,15 @@ pub struct Block {
     pub z: i64,
     // µm/s
     pub feed: u64,
-    // radius of the curve that the block is a chord of, µm; 0 means no curve
+    // radius of the curve that the block is a chord of, µm; 0 means no curve, as on tape and for C
     pub radius: u64,
     // a label for the operator
     pub mark: u64,
 }
 
-// What a plan needs of one block.
-#[derive(Clone, Copy)]
+// What a plan needs of one block. A block and its numbers are handed on as two values: a plan needs the numbers alone, and a corner
+// both.
+#[derive(Clone, Copy, Debug, Default, PartialEq, Eq, Hash)]
 pub struct Numbers {
     // length, µm
     pub length: u64,
@@ -73,14 +72,14 @@ pub struct Numbers {
 }
 
 // A block's numbers and the square of its speed, (µm/s)², which is its cap but on a curve.
-#[derive(Clone, Copy)]
+#[derive(Clone, Copy, Debug, PartialEq, Eq, Hash)]
 pub struct Gauged {
     pub square: u64,
     pub numbers: Numbers,
 }
 
 // How a block is driven between its entry and its exit.
-#[derive(Clone, Copy)]
+#[derive(Clone, Copy, Debug, Default, PartialEq, Eq, Hash)]
 pub struct Ramp {
     // greatest squared speed, (µm/s)²
     pub peak: u64,
@@ -88,25 +87,4 @@ pub struct Ramp {
     pub up: u64,
     pub cruise: u64,
     pub down: u64,
-}
-
-// The answer of a call for a machine.
-#[derive(Clone, Copy)]
-pub enum MachineAnswer {
-    Of(Machine),
-    Refused(Refusal),
-}
-
-// The answer of a call for a block's numbers.
-#[derive(Clone, Copy)]
-pub enum NumbersAnswer {
-    Of(Numbers),
-    Refused(Refusal),
-}
-
-// The answer of a call for a cap, (µm/s)².
-#[derive(Clone, Copy)]
-pub enum CapAnswer {
-    Of(u64),
-    Refused(Refusal),
 }

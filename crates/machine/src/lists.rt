@@ -5,7 +5,8 @@ ghost use Rattle.machine.specs.Lists.{limit_numbers, limits_from, limits_size};
 
 use crate::{Axes, Limits};
 
-// Numbers of limits: acceleration X, Y, Z, µm/s², speed X, Y, Z, µm/s, corner jump, µm/s, chord tolerance, µm, tick, µs.
+// Lists of at least so many numbers, since a planner's memory begins with limits too; so no `From` either, which speaks of the whole
+// list. Numbers of limits: acceleration X, Y, Z, µm/s², speed X, Y, Z, µm/s, corner jump, µm/s, chord tolerance, µm, tick, µs.
 pub const LIMITS: usize = 9;
 
 // The limits that the first numbers say.
@@ -13,19 +14,17 @@ pub fn limits_from(list: &[u64]) -> Limits
     requires { limits_size ≤ length list.now }
     ensures { result ≡ limits_from list.now }
 {
-    let accel = Axes {
-        x: list[0],
-        y: list[1],
-        z: list[2],
-    };
-    let speed = Axes {
-        x: list[3],
-        y: list[4],
-        z: list[5],
-    };
     Limits {
-        accel: accel,
-        speed: speed,
+        accel: Axes {
+            x: list[0],
+            y: list[1],
+            z: list[2],
+        },
+        speed: Axes {
+            x: list[3],
+            y: list[4],
+            z: list[5],
+        },
         jump: list[6],
         chord: list[7],
         tick: list[8],
@@ -37,14 +36,12 @@ pub fn store_limits(l: Limits, list: &mut [u64])
     requires { limits_size ≤ length list.old }
     ensures { list.new ≡ sets list.old 0 (limit_numbers l []) }
 {
-    let accel = l.accel;
-    let speed = l.speed;
-    list[0] = accel.x;
-    list[1] = accel.y;
-    list[2] = accel.z;
-    list[3] = speed.x;
-    list[4] = speed.y;
-    list[5] = speed.z;
+    list[0] = l.accel.x;
+    list[1] = l.accel.y;
+    list[2] = l.accel.z;
+    list[3] = l.speed.x;
+    list[4] = l.speed.y;
+    list[5] = l.speed.z;
     list[6] = l.jump;
     list[7] = l.chord;
     list[8] = l.tick;

@@ -1,4 +1,5 @@
-// From a block to its numbers: length, block speed, acceleration, reach and block cap.
+// From a block to its numbers: length, block speed, acceleration, reach and block cap. What the limits and the block must be is a
+// clause of each function and no type: these functions promise something of plain limits and blocks, by name in docs/PROMISES.
 ghost use Rattle.std.specs.Prelude.{◌≡◌, ◌*◌, ◌/◌, ◌^◌, ◌≤◌, ◌<◌, max};
 ghost use Rattle.machine.specs.Checks.{block_refusal, moves_of};
 ghost use Rattle.machine.specs.Numbers.{AxesBelow, LimitsBelow, axis_limit, block_cap_from, chord_factor, each_axis, gauged_of, length_from, length_of, numbers_of, speed_of};
@@ -10,8 +11,6 @@ use crate::torque::torque_percent;
 use crate::{Axes, Block, Gauged, Limits, Machine, Numbers};
 use arith::quotient::capped_quotient;
 use arith::root::root;
-use arith::signed::magnitude;
-use arith::whole::{larger, smaller};
 
 // Parts of a µm in which a length is counted.
 pub const UNIT: u64 = 1;
@@ -20,13 +19,10 @@ pub const UNIT: u64 = 1;
 pub fn moves_of(b: Block) -> Axes
     ensures { result ≡ moves_of b }
 {
-    let x = b.x;
-    let y = b.y;
-    let z = b.z;
     Axes {
-        x: magnitude(x),
-        y: magnitude(y),
-        z: magnitude(z),
+        x: b.x.unsigned_abs(),
+        y: b.y.unsigned_abs(),
+        z: b.z.unsigned_abs(),
     }
 }
 
@@ -67,7 +63,7 @@ fn accel_of(most: u64, torque: u64, speed: u64) -> u64
     requires { (most ≤ 2 * most_accel) × (speed ≤ most_feed) }
     ensures { (result ≡ max 1 (most * torque_percent torque speed / 100)) × (result < 2 ^ 27) }
 {
-    larger(1, most * torque_percent(torque, speed) / 100)
+    (most * torque_percent(torque, speed) / 100).max(1)
 }
 
 // The chord rule's factor of 10^12, µm²: 8 × e × R - 4 × e × e, e the smaller of E and R.
@@ -75,7 +71,7 @@ fn chord_factor(l: Limits, radius: u64) -> u64
     requires { radius ≤ most_radius }
     ensures { result ≡ chord_factor l radius }
 {
-    let e = smaller(l.chord, radius);
+    let e = l.chord.min(radius);
     8 * e * radius - 4 * e * e
 }
 
@@ -101,8 +97,7 @@ pub fn speed_of(l: Limits, b: Block, length: u64) -> u64
     requires { LimitsBelow l × (block_refusal b ≡ 0) × (length ≡ length_of b) }
     ensures { result ≡ speed_of l b }
 {
-    let speeds = l.speed;
-    each_axis(b.feed, speeds, length, moves_of(b))
+    each_axis(b.feed, l.speed, length, moves_of(b))
 }
 
 // All numbers of a block that passes 2 to 6, and the square of its speed.
@@ -114,14 +109,13 @@ pub fn gauge(m: Machine, b: Block) -> Gauged
     let moves = moves_of(b);
     let length = length_of(moves);
     let speed = speed_of(l, b, length);
-    let accels = l.accel;
-    let most = each_axis(2 * MOST_ACCEL, accels, length, moves);
+    let most = each_axis(2 * MOST_ACCEL, l.accel, length, moves);
     let accel = accel_of(most, m.torque, speed);
     Gauged {
         square: speed * speed,
         numbers: Numbers {
-            length: length,
-            accel: accel,
+            length,
+            accel,
             reach: 2 * accel * length / UNIT,
             cap: block_cap(l, b.radius, speed),
         },
@@ -133,6 +127,5 @@ pub fn numbers(m: Machine, b: Block) -> Numbers
     requires { LimitsBelow m.limits × (block_refusal b ≡ 0) }
     ensures { result ≡ numbers_of m b }
 {
-    let g = gauge(m, b);
-    g.numbers
+    gauge(m, b).numbers
 }

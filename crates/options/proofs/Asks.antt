@@ -1,13 +1,10 @@
 -- WHAT A COMMAND LINE ASKS FOR: the work, the usage and the version are asked for exactly by the words that `Line` describes.
-use mathlib.Core.Logic.{◌↔◌}
-use mathlib.Core.Path.{◌≡◌, refl, sym, ap, subst}
-use mathlib.Core.Bool.{Bool, true, false, cond}
-use mathlib.Core.List.{List, map}
-use Prim.Native.Nat.{ℕ, ◌≤◌}
-use native.Mathlib.Omega.{arith}
+use Rattle.std.proofs.Common.{◌≡◌, ◌↔◌, ℕ, ◌≤◌, Bool, true, false, cond, List, map, refl, sym, subst, ap, length, arith}
 use borrow.Author.Tests.{ltb-false, le-ltb}
 use lib.Dec.{ltb}
-use lib.ListN.{length}
+use Rattle.std.specs.Prelude.{Some, None}
+use Rattle.std.specs.Prelude as std
+use Rattle.options.specs.declared.Valued.{Valued}
 use Rattle.options.specs.declared.Form.{Form}
 use Rattle.options.specs.declared.Seen.{Seen}
 use Rattle.options.specs.declared.Asked.{Asked}
@@ -24,23 +21,20 @@ Says f t Work = Clear t × (t.help ≡ false) × (t.version ≡ false) × (f.lea
 Says f t Usage = Clear t × (t.help ≡ true)
 Says f t Version = Clear t × (t.help ≡ false) × (t.version ≡ true)
 Says f t (Wrong place) = Unit {0}
-Says f t (Missing kind) = Unit {0}
+Says f t (Missing option) = Unit {0}
 
 says : (f : Form) (t : Seen) → Says f t (asked_by f t)
 unfolding asked_by
-says f t = go (ltb 0 t.wrong) (ltb 0 t.waits) t.help t.version (ltb t.count f.least) refl refl refl refl refl
+says f t = go t.wrong t.waits t.help t.version (ltb t.count f.least) refl refl refl refl refl
   where
-    clear : ltb 0 t.wrong ≡ false → ltb 0 t.waits ≡ false → Clear t
-    clear d e = (omega (arith, ltb-false 0 t.wrong d), omega (arith, ltb-false 0 t.waits e))
-
-    go : (a b h v n : Bool) → ltb 0 t.wrong ≡ a → ltb 0 t.waits ≡ b → t.help ≡ h → t.version ≡ v → ltb t.count f.least ≡ n
-        → Says f t (cond a (Wrong t.wrong) (cond b (Missing t.waits) (cond h Usage (cond v Version (cond n (Missing 0) Work)))))
-    go true b h v n d e i j k = tt
-    go false true h v n d e i j k = tt
-    go false false true v n d e i j k = (clear d e, i)
-    go false false false true n d e i j k = (clear d e, i, j)
-    go false false false false true d e i j k = tt
-    go false false false false false d e i j k = (clear d e, i, j, ltb-false t.count f.least k)
+    go : (a : std.Option ℕ) (b : std.Option Valued) (h v n : Bool) → t.wrong ≡ a → t.waits ≡ b → t.help ≡ h → t.version ≡ v → ltb t.count f.least ≡ n
+        → Says f t (elim a [ Some place ↦ Wrong place | None ↦ elim b [ Some option ↦ Missing (Some option) | None ↦ cond h Usage (cond v Version (cond n (Missing None) Work)) ] ])
+    go (Some place) b h v n d e i j k = tt
+    go None (Some option) h v n d e i j k = tt
+    go None None true v n d e i j k = ((d, e), i)
+    go None None false true n d e i j k = ((d, e), i, j)
+    go None None false false true d e i j k = tt
+    go None None false false false d e i j k = ((d, e), i, j, ltb-false t.count f.least k)
 
 flag_one : (b : Bool) → flag b ≡ 1 → b ≡ true
 flag_one true e = refl
@@ -53,7 +47,7 @@ module _ (f : Form) (words : List (List ℕ)) where
 
   line_of : Clear last → CommandLine f words
   line_of c =
-      let b = line_back f (length words) words none_seen 1 (omega arith) (omega arith) (refl, refl) refl c in
+      let b = line_back f (length words) words none_seen 1 (omega arith) (refl, refl) refl c in
       let o = b.once in
       record { options = b.options; others = b.others; is = b.is; known = b.known; once = (omega (arith, o.0), omega (arith, o.1), omega (arith, o.2), omega (arith, o.3)); taken = b.taken; room = omega (arith, b.room) }
 

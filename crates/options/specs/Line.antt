@@ -18,7 +18,8 @@ line (version ∷ options) others = version_word ∷ line options others
 line (steps file ∷ options) others = steps_word ∷ file ∷ line options others
 line (width number ∷ options) others = width_word ∷ number ∷ line options others
 
--- how many options there are of a kind: 1 `--help`, 2 `--version`, 3 `--steps`, 4 `--width`
+-- how many options there are of a kind: 1 `--help`, 2 `--version`, 3 `--steps`, 4 `--width`; numbers, as the laws `work_asked_is`,
+-- `usage_asked_is` and `version_asked_is` are stated by them
 abbrev pub kind_of : Option → ℕ
 kind_of help = 1
 kind_of version = 2

@@ -10,7 +10,7 @@ use lib.ListN.{length, get_or}
 use Rattle.doubles.proofs.Positions.{position_number}
 use Rattle.text.specs.Store.{place_behind, Answered}
 use Rattle.text.specs.Text.{line}
-use Rattle.text.specs.declared.Put.{Put}
+use Rattle.std.specs.Prelude.{Option}
 use Rattle.text.proofs.Lines.{line_most}
 use Rattle.given_text.specs.Given.{WroteLine}
 use Rattle.given_text.proofs.GivenLines.{wrote}
@@ -36,7 +36,7 @@ module _ (p : Point) {x y z : ℕ} (x-is : x ≡ to_bits binary64 p.x) (y-is : y
   patterns_are : x ∷ y ∷ z ∷ [] ≡ patterns_of p
   patterns_are = λ i. x-is i ∷ y-is i ∷ z-is i ∷ []
 
-  pub point_wrote : {s after : List ℕ} {at end : ℕ} {answer : Put} → x < 2 ^ 64 → y < 2 ^ 64 → z < 2 ^ 64 → at + line_bytes ≤ length s
+  pub point_wrote : {s after : List ℕ} {at end : ℕ} {answer : Option ℕ} → x < 2 ^ 64 → y < 2 ^ 64 → z < 2 ^ 64 → at + line_bytes ≤ length s
       → Answered s at (line point_word (x ∷ y ∷ z ∷ [])) answer after → end ≡ place_behind at answer → WroteLine (point_text p) s at end after
   point_wrote {s} {after} {at} {end} a b c room r e =
       let short = line_most point_word (x ∷ y ∷ z ∷ []) (below x y z a b c) in

@@ -8,6 +8,9 @@ use fields::{read_field, read_word};
 use host::orders::{Event, Order, Point};
 use line::Call;
 
+// The bytes of an event are a part of the list that is lent, so they are a slice with its length in a clause: as an array they would
+// come out of `first_chunk` as an Option, whose None each call would have to exclude by the same clause.
+
 // Bits of the kind, and the bytes before the first double.
 const WORD: usize = 32;
 
@@ -41,20 +44,17 @@ fn point_in(bytes: &[u8], i: usize) -> Point
     }
 }
 
-// The order of a kind above 0: 1 is a rapid, 2 a feed, any other a curve chord.
+// The order of a kind above 0: 1 is a rapid, 2 a feed, any other a curve chord. The numbers are the format's.
 fn order_of(kind: u64, bytes: &[u8]) -> Order
     requires { length bytes.now ≡ event_bytes }
     ensures { result ≡ order_of kind bytes.now }
 {
     let target = point_in(bytes, TARGET);
-    if kind == 1 {
-        return Order::Rapid(target);
+    match kind {
+        1 => Order::Rapid(target),
+        2 => Order::Feed(target, double_in(bytes, SPEED)),
+        _ => Order::CurveChord(target, double_in(bytes, SPEED), double_in(bytes, RADIUS)),
     }
-    let speed = double_in(bytes, SPEED);
-    if kind == 2 {
-        return Order::Feed(target, speed);
-    }
-    Order::CurveChord(target, speed, double_in(bytes, RADIUS))
 }
 
 // The event that its bytes say: kind 0 is a take, any other number an order.
@@ -62,11 +62,10 @@ fn event_of(bytes: &[u8]) -> Event
     requires { length bytes.now ≡ event_bytes }
     ensures { result ≡ event_of bytes.now }
 {
-    let kind = read_field(bytes, 0, WORD);
-    if kind == 0 {
-        return Event::Call(Call::Take);
+    match read_field(bytes, 0, WORD) {
+        0 => Event::Call(Call::Take),
+        kind => Event::Order(order_of(kind, bytes), point_in(bytes, OFFSET)),
     }
-    Event::Order(order_of(kind, bytes), point_in(bytes, OFFSET))
 }
 
 // Event k of bytes with no limits before them, k counted from 0.
@@ -75,6 +74,5 @@ pub(crate) fn read_event(bytes: &[u8], k: usize) -> Event
     ensures { result ≡ event_in bytes.now k }
 {
     let from = EVENT_BYTES * k;
-    let to = from + EVENT_BYTES;
-    event_of(&bytes[from..to])
+    event_of(&bytes[from..from + EVENT_BYTES])
 }

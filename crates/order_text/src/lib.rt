@@ -10,7 +10,7 @@ mod events;
 ghost use Rattle.std.specs.Prelude.{◌+◌, ◌≤◌, ◌≡◌, length};
 ghost use Rattle.host.specs.State.{host_of, position_of};
 ghost use Rattle.given_text.specs.Given.{WroteLine};
-ghost use Rattle.replay_text.specs.Chunks.{chunk_calls, line_bytes, text_bytes};
+ghost use Rattle.replay_text.specs.Chunks.{chunk_calls, line_bytes};
 ghost use Rattle.replay_text.specs.Runs.{RanText};
 ghost use Rattle.order_text.specs.Texts.{point_text, recorded_events};
 ghost use Rattle.order_text.specs.Closes.{ClosedOrders};
@@ -18,7 +18,7 @@ ghost use Rattle.order_text.specs.Closes.{ClosedOrders};
 use doubles::bits_of;
 use events::read_event;
 use planner::NUMBERS;
-use replay_text::{TEXT, close_in, records_of, write_answer};
+use replay_text::{TEXT, records_of, write_answer};
 use text::behind;
 
 // Bytes of an event.
@@ -26,29 +26,10 @@ pub const EVENT_BYTES: usize = 68;
 // Events of a chunk that are run at most: their lines have room in a list of `replay_text::TEXT` bytes.
 pub const EVENTS: usize = 300;
 
-// Runs the events of a chunk in turn, each line behind the one before it.
-fn run(
-    bytes: &[u8],
-    memory: &mut [u64; NUMBERS],
-    host: &mut [u64; host::NUMBERS],
-    text: &mut [u8],
-) -> usize
-    requires { length text.old ≡ text_bytes }
-    ensures { RanText recorded_events (chunk_calls recorded_events bytes.now) (record { memory = memory.old; host = host.old }) (record { memory = memory.new; host = host.new }) text.old result text.new }
-{
-    let n = records_of(bytes, EVENT_BYTES, EVENTS);
-    let mut end: usize = 0;
-    let mut k: usize = 0;
-    while k < n {
-        let answer = host::event(memory, host, read_event(bytes, k));
-        end = write_answer(answer, text, end);
-        k += 1;
-    }
-    end
-}
-
-// Runs the events of a chunk, and stores their lines from the first byte on. Returns how many bytes
-// they take. Events beyond `EVENTS`, and bytes behind the last whole event, play no part.
+// Runs the events of a chunk in turn, and stores their lines from the first byte on, each behind the one
+// before it. Returns how many bytes they take. Events beyond `EVENTS`, and bytes behind the last whole
+// event, play no part. The loop is replay_text's but for its step: one function for both needs a trait or a
+// closure for the step, with its law, and one for each, which is longer than these lines twice.
 pub fn run_chunk(
     bytes: &[u8],
     memory: &mut [u64; NUMBERS],
@@ -57,7 +38,12 @@ pub fn run_chunk(
 ) -> usize
     ensures { RanText recorded_events (chunk_calls recorded_events bytes.now) (record { memory = memory.old; host = host.old }) (record { memory = memory.new; host = host.new }) text.old result text.new }
 {
-    run(bytes, memory, host, text)
+    let mut end: usize = 0;
+    for k in 0..records_of(bytes, EVENT_BYTES, EVENTS) {
+        let answer = host::event(memory, host, read_event(bytes, k));
+        end = write_answer(answer, text, end);
+    }
+    end
 }
 
 // Stores the line of the host's point: the patterns of its three doubles, µm.
@@ -66,17 +52,15 @@ fn write_point(host: &[u64; host::NUMBERS], text: &mut [u8], at: usize) -> usize
     ensures { WroteLine (point_text (position_of (host_of host.now))) text.old at result text.new }
 {
     let p = host::position(host);
-    let patterns = [bits_of(p.x), bits_of(p.y), bits_of(p.z)];
-    behind(text::put_line(text, at, b"point", &patterns), at)
-}
-
-// The closing lines of a planner, and behind them the host's.
-fn close_both(memory: &[u64; NUMBERS], host: &[u64; host::NUMBERS], text: &mut [u8]) -> usize
-    requires { length text.old ≡ text_bytes }
-    ensures { ClosedOrders (record { memory = memory.now; host = host.now }) text.old result text.new }
-{
-    let end = close_in(memory, text);
-    write_point(host, text, end)
+    behind(
+        text::put_line(
+            text,
+            at,
+            b"point",
+            &[bits_of(p.x), bits_of(p.y), bits_of(p.z)],
+        ),
+        at,
+    )
 }
 
 // Stores the closing lines from the first byte on: the number of blocks held, the plan, and the host's
@@ -84,5 +68,6 @@ fn close_both(memory: &[u64; NUMBERS], host: &[u64; host::NUMBERS], text: &mut [
 pub fn close(memory: &[u64; NUMBERS], host: &[u64; host::NUMBERS], text: &mut [u8; TEXT]) -> usize
     ensures { ClosedOrders (record { memory = memory.now; host = host.now }) text.old result text.new }
 {
-    close_both(memory, host, text)
+    let end = replay_text::close(memory, text);
+    write_point(host, text, end)
 }

@@ -1,4 +1,4 @@
--- Lists that are filled from the front, and the line that two of them make. From the laws of lists.
+-- A list of spans that is filled from the front, and the line that it comes to. From the laws of lists.
 use mathlib.Core.Path.{◌≡◌, refl, ◌∙◌}
 use mathlib.Core.List.{List, ◌∷◌, []}
 use Prim.Native.Nat.{ℕ, suc, ◌+◌, ◌≤◌, ◌<◌, zero-le, suc-le-suc}
@@ -7,28 +7,25 @@ use native.Mathlib.Decide.{dec_lt}
 use native.Mathlib.Omega.{arith}
 use lib.ListN.{length, take, set}
 use lib.Seq.{get_or-set_same, get_or-set_other}
-use Rattle.profile.specs.Line.{Span, cap_at, reach_at, number_at}
-use Rattle.passes.specs.Lent.{line_of}
+use Rattle.profile.specs.Line.{no_span, span_at}
+use Rattle.profile.specs.declared.Span.{Span}
 
--- the first k numbers are f's
-abbrev pub Filled : List ℕ → (k : ℕ) → (ℕ → ℕ) → Type 0
-Filled list k f = (i : ℕ) → i < k → number_at list i ≡ f i
+-- the first k spans are those of a line
+abbrev pub Filled : (list : List Span) (k : ℕ) (line : List Span) → Type 0
+Filled list k line = (i : ℕ) → i < k → span_at list i ≡ span_at line i
 
 -- one more
-pub filled_more : (list : List ℕ) (k v : ℕ) (f : ℕ → ℕ) → k < length list → v ≡ f k → Filled list k f → Filled (set list k v) (k + 1) f
-filled_more list k v f h e g i j = go (dec_lt i k)
+pub filled_more : (list : List Span) (k : ℕ) (s : Span) (line : List Span) → k < length list → s ≡ span_at line k → Filled list k line → Filled (set list k s) (k + 1) line
+filled_more list k s line h e g i j = go (dec_lt i k)
   where
-    go : Dec (i < k) → number_at (set list k v) i ≡ f i
-    go (yes b) = get_or-set_other list k i v 0 (omega arith) ∙ g i b
-    go (no b) = let same : i ≡ k = omega arith in rw same (get_or-set_same list k v 0 h ∙ e)
+    go : Dec (i < k) → span_at (set list k s) i ≡ span_at line i
+    go (yes b) = get_or-set_other list k i s no_span (omega arith) ∙ g i b
+    go (no b) = let same : i ≡ k = omega arith in rw same (get_or-set_same list k s no_span h ∙ e)
 
--- the line that the first numbers of two lists make, where they are a line's caps and reaches
-pub filled_line : (line : List Span) (caps reaches : List ℕ) → length line ≤ length caps → length line ≤ length reaches
-    → Filled caps (length line) (cap_at line) → Filled reaches (length line) (reach_at line) → line_of (take (length line) caps) (take (length line) reaches) ≡ line
-unfolding line_of
-filled_line [] caps reaches h g f e = refl
-filled_line (s ∷ line) [] reaches h g f e = absurd (not-suc-le-zero h)
-filled_line (s ∷ line) (c ∷ caps) [] h g f e = absurd (not-suc-le-zero g)
-filled_line (s ∷ line) (c ∷ caps) (r ∷ reaches) h g f e =
-    let rest = filled_line line caps reaches (le_of_suc-le-suc h) (le_of_suc-le-suc g) (λ i b. f (suc i) (suc-le-suc b)) (λ i b. e (suc i) (suc-le-suc b)) in
-    λ i. record { cap = f 0 (suc-le-suc zero-le) i; reach = e 0 (suc-le-suc zero-le) i } ∷ rest i
+-- all of them
+pub filled_line : (line list : List Span) → length line ≤ length list → Filled list (length line) line → take (length line) list ≡ line
+filled_line [] list h f = refl
+filled_line (s ∷ line) [] h f = absurd (not-suc-le-zero h)
+filled_line (s ∷ line) (r ∷ list) h f =
+    let rest = filled_line line list (le_of_suc-le-suc h) (λ i b. f (suc i) (suc-le-suc b)) in
+    λ i. f 0 (suc-le-suc zero-le) i ∷ rest i

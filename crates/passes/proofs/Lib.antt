@@ -1,3 +1,2 @@
 -- The laws of lines in two lists.
 pub mod Filled
-pub mod LentLaws

@@ -1,13 +1,8 @@
--- A line of blocks from the list of its junction caps and that of its reaches.
-use Rattle.std.specs.Prelude.{◌≡◌, List, ◌∷◌, [], ℕ, ◌+◌, length}
-use Rattle.profile.specs.Line.{Span, number_at}
+-- What the backward pass leaves in a lent list.
+use Rattle.std.specs.Prelude.{◌≡◌, List, ℕ, ◌+◌, length}
+use Rattle.profile.specs.Line.{number_at}
+use Rattle.profile.specs.declared.Span.{Span}
 use Rattle.profile.specs.Passes.{Braked}
-
--- the line whose blocks have these caps where they begin, and these reaches
-unfoldable pub line_of : List ℕ → List ℕ → List Span
-line_of [] rs = []
-line_of (c ∷ cs) [] = []
-line_of (c ∷ cs) (r ∷ rs) = record { cap = c; reach = r } ∷ line_of cs rs
 
 -- a list of one number for each junction that holds the backward pass at each but the first
 pub record BrakedList (line : List Span) (list : List ℕ) : Type 0 where

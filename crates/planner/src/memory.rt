@@ -1,6 +1,6 @@
 // The numbers of a planner's memory: where each stands, read and stored. Indices are within the
 // memory whatever it holds.
-ghost use Rattle.std.specs.Prelude.{◌≡◌, ◌+◌, ◌%◌, ◌≤◌, [], length};
+ghost use Rattle.std.specs.Prelude.{◌≡◌, ◌+◌, ◌%◌, ◌<◌, ◌≤◌, [], length};
 ghost use Rattle.std.proofs.lemmas.List.Edits.{sets};
 ghost use Rattle.line.specs.Blocks.{most_held};
 ghost use Rattle.profile.specs.Passes.{brake_from};
@@ -16,7 +16,8 @@ use profile::brake_from;
 
 // Blocks that a planner holds at most.
 pub const PLACES: u64 = 64;
-// Numbers of the head, of a place, of a stair, and of the memory; where the stairs begin.
+// The memory is numbers at fixed places and no struct, since C lends it. Numbers of the head, of a place, of a stair, and of the memory;
+// where the stairs begin.
 const HEAD: usize = 16;
 
 const PLACE: usize = 11;
@@ -76,29 +77,43 @@ const LIMIT_END: u64 = 0x1_0000_0000;
 // Lengths of held blocks are used below this, µm.
 const LENGTH_END: u64 = 0x4000_0000;
 
-// Where the numbers of block k begin, block 0 at place `first`.
-pub fn place(first: u64, k: u64) -> usize
-    ensures { (result ≡ base_of ((first + k) % most_held)) × (result ≤ last_base) }
+// The k-th place of the ring behind place `first`, whatever both are.
+fn turned(first: u64, k: u64) -> usize
+    ensures { (result ≡ (first + k) % most_held) × (result < most_held) }
 {
-    HEAD + PLACE * ((first % PLACES + k % PLACES) % PLACES) as usize
+    ((first % PLACES + k % PLACES) % PLACES) as usize
+}
+
+// Where the numbers of a block begin: all of them are within the memory. Places are asked for their numbers, never compared.
+#[derive(Clone, Copy)]
+pub struct HeldPlace {
+    base: usize,
+    ghost within: { base ≤ last_base },
+}
+
+// Where the numbers of block k begin, block 0 at place `first`.
+pub fn place(first: u64, k: u64) -> HeldPlace
+    ensures { result.base ≡ base_of ((first + k) % most_held) }
+{
+    HeldPlace {
+        base: HEAD + PLACE * turned(first, k),
+    }
 }
 
 // Where the numbers of stair j begin, stair 0 at `first`.
 pub fn stair_place(first: u64, j: u64) -> usize
     ensures { (result ≡ stair_base ((first + j) % most_held)) × (result ≤ last_stair) }
 {
-    STAIRS + STAIR * ((first % PLACES + j % PLACES) % PLACES) as usize
+    STAIRS + STAIR * turned(first, j)
 }
 
 // Limits cut to 32 bits.
 fn cut_limits(l: Limits) -> Limits
     ensures { result ≡ cut_limits l }
 {
-    let accel = l.accel;
-    let speed = l.speed;
     Limits {
-        accel: cut_axes(accel),
-        speed: cut_axes(speed),
+        accel: cut_axes(l.accel),
+        speed: cut_axes(l.speed),
         jump: l.jump % LIMIT_END,
         chord: l.chord % LIMIT_END,
         tick: l.tick % LIMIT_END,
@@ -116,8 +131,7 @@ fn cut_axes(a: Axes) -> Axes
 }
 
 // The machine, its limits cut.
-pub fn machine_in(memory: &[u64]) -> Machine
-    requires { length memory.now ≡ memory_size }
+pub fn machine_in(memory: &[u64; NUMBERS]) -> Machine
     ensures { result ≡ cut_machine (machine_from memory.now) }
 {
     Machine {
@@ -126,112 +140,95 @@ pub fn machine_in(memory: &[u64]) -> Machine
     }
 }
 
-// The block of a place.
-pub fn block_in(memory: &[u64], at: usize) -> Block
-    requires { (length memory.now ≡ memory_size) × (at ≤ last_base) }
-    ensures { result ≡ block_in (place_from memory.now at) }
+// The block of a place. It and the next function differ in how a move is read, a word or 21 bits of one: one function for both would
+// take a closure for it, and its contract the definition of a block read so, beside the two that are there.
+pub fn block_in(memory: &[u64; NUMBERS], at: HeldPlace) -> Block
+    ensures { result ≡ block_in (place_from memory.now at.base) }
 {
-    let x = signed_word(memory[at + X]);
-    let y = signed_word(memory[at + Y]);
-    let z = signed_word(memory[at + Z]);
     labelled_block(
-        x,
-        y,
-        z,
-        memory[at + FEED],
-        memory[at + RADIUS],
-        memory[at + LABEL],
+        signed_word(memory[at.base + X]),
+        signed_word(memory[at.base + Y]),
+        signed_word(memory[at.base + Z]),
+        memory[at.base + FEED],
+        memory[at.base + RADIUS],
+        memory[at.base + LABEL],
     )
 }
 
 // The same with its moves cut to 21 bits, as the cap of the junction behind the block is worked out from
 // them.
-pub fn cut_block_in(memory: &[u64], at: usize) -> Block
-    requires { (length memory.now ≡ memory_size) × (at ≤ last_base) }
-    ensures { result ≡ cut_block (place_from memory.now at) }
+pub fn cut_block_in(memory: &[u64; NUMBERS], at: HeldPlace) -> Block
+    ensures { result ≡ cut_block (place_from memory.now at.base) }
 {
-    let x = to_signed(memory[at + X], MOVE_BITS);
-    let y = to_signed(memory[at + Y], MOVE_BITS);
-    let z = to_signed(memory[at + Z], MOVE_BITS);
     labelled_block(
-        x,
-        y,
-        z,
-        memory[at + FEED],
-        memory[at + RADIUS],
-        memory[at + LABEL],
+        to_signed(memory[at.base + X], MOVE_BITS),
+        to_signed(memory[at.base + Y], MOVE_BITS),
+        to_signed(memory[at.base + Z], MOVE_BITS),
+        memory[at.base + FEED],
+        memory[at.base + RADIUS],
+        memory[at.base + LABEL],
     )
 }
 
 // The numbers of its block.
-pub fn numbers_in(memory: &[u64], at: usize) -> Numbers
-    requires { (length memory.now ≡ memory_size) × (at ≤ last_base) }
-    ensures { result ≡ numbers_in (place_from memory.now at) }
+pub fn numbers_in(memory: &[u64; NUMBERS], at: HeldPlace) -> Numbers
+    ensures { result ≡ numbers_in (place_from memory.now at.base) }
 {
     Numbers {
-        length: memory[at + LENGTH],
-        accel: memory[at + ACCEL],
-        reach: memory[at + REACH],
-        cap: memory[at + CAP],
+        length: memory[at.base + LENGTH],
+        accel: memory[at.base + ACCEL],
+        reach: memory[at.base + REACH],
+        cap: memory[at.base + CAP],
     }
 }
 
 // The same with the length cut to 30 bits, as the cap of the junction behind the block is worked out
 // from them.
-pub fn cut_numbers_in(memory: &[u64], at: usize) -> Numbers
-    requires { (length memory.now ≡ memory_size) × (at ≤ last_base) }
-    ensures { result ≡ cut_numbers (place_from memory.now at) }
+pub fn cut_numbers_in(memory: &[u64; NUMBERS], at: HeldPlace) -> Numbers
+    ensures { result ≡ cut_numbers (place_from memory.now at.base) }
 {
     let n = numbers_in(memory, at);
     Numbers {
         length: n.length % LENGTH_END,
-        accel: n.accel,
-        reach: n.reach,
-        cap: n.cap,
+        ..n
     }
 }
 
 // The reach of a place's block, (µm/s)².
-pub fn reach_at(memory: &[u64], at: usize) -> u64
-    requires { (length memory.now ≡ memory_size) × (at ≤ last_base) }
-    ensures { result ≡ (place_from memory.now at).reach }
+pub fn reach_at(memory: &[u64; NUMBERS], at: HeldPlace) -> u64
+    ensures { result ≡ (place_from memory.now at.base).reach }
 {
-    memory[at + REACH]
+    memory[at.base + REACH]
 }
 
 // The greatest squared speed where a place's block begins, under its junction cap, from which it can
 // brake to `after` at its end, (µm/s)².
-pub fn brake_at(memory: &[u64], at: usize, after: u64) -> u64
-    requires { (length memory.now ≡ memory_size) × (at ≤ last_base) }
-    ensures { result ≡ brake_from (place_from memory.now at).junction (place_from memory.now at).reach after }
+pub fn brake_at(memory: &[u64; NUMBERS], at: HeldPlace, after: u64) -> u64
+    ensures { result ≡ brake_from (place_from memory.now at.base).junction (place_from memory.now at.base).reach after }
 {
-    brake_from(memory[at + JUNCTION], memory[at + REACH], after)
+    brake_from(memory[at.base + JUNCTION], memory[at.base + REACH], after)
 }
 
 // Stores a block with its numbers in a place.
-pub fn store_place(memory: &mut [u64], at: usize, b: Block, n: Numbers, junction: u64)
-    requires { (length memory.old ≡ memory_size) × (at ≤ last_base) }
-    ensures { memory.new ≡ sets memory.old at (numbers_for (place_of b n junction)) }
+pub fn store_place(memory: &mut [u64; NUMBERS], at: HeldPlace, b: Block, n: Numbers, junction: u64)
+    ensures { memory.new ≡ sets memory.old at.base (numbers_for (place_of b n junction)) }
 {
-    let x = b.x;
-    let y = b.y;
-    let z = b.z;
-    memory[at + X] = to_word(x);
-    memory[at + Y] = to_word(y);
-    memory[at + Z] = to_word(z);
-    memory[at + FEED] = b.feed;
-    memory[at + RADIUS] = b.radius;
-    memory[at + LABEL] = label_of(b);
-    memory[at + LENGTH] = n.length;
-    memory[at + ACCEL] = n.accel;
-    memory[at + REACH] = n.reach;
-    memory[at + CAP] = n.cap;
-    memory[at + JUNCTION] = junction;
+    memory[at.base + X] = to_word(b.x);
+    memory[at.base + Y] = to_word(b.y);
+    memory[at.base + Z] = to_word(b.z);
+    memory[at.base + FEED] = b.feed;
+    memory[at.base + RADIUS] = b.radius;
+    memory[at.base + LABEL] = label_of(b);
+    memory[at.base + LENGTH] = n.length;
+    memory[at.base + ACCEL] = n.accel;
+    memory[at.base + REACH] = n.reach;
+    memory[at.base + CAP] = n.cap;
+    memory[at.base + JUNCTION] = junction;
 }
 
 // Stores a stair.
-pub fn store_stair(memory: &mut [u64], at: usize, gap: u64, cap: u64)
-    requires { (length memory.old ≡ memory_size) × (at ≤ last_stair) }
+pub fn store_stair(memory: &mut [u64; NUMBERS], at: usize, gap: u64, cap: u64)
+    requires { at ≤ last_stair }
     ensures { memory.new ≡ sets memory.old at (stair_numbers (stair gap cap)) }
 {
     memory[at + GAP] = gap;
@@ -239,12 +236,10 @@ pub fn store_stair(memory: &mut [u64], at: usize, gap: u64, cap: u64)
 }
 
 // Stores the head of a planner that holds nothing and stands still.
-pub fn store_fresh(memory: &mut [u64], m: Machine)
-    requires { length memory.old ≡ memory_size }
+pub fn store_fresh(memory: &mut [u64; NUMBERS], m: Machine)
     ensures { memory.new ≡ sets memory.old 0 (head_numbers (fresh_ring m [] [])) }
 {
-    let l = m.limits;
-    store_limits(l, memory);
+    store_limits(m.limits, memory);
     memory[FIRST] = 0;
     memory[COUNT] = 0;
     memory[COMMITTED] = 0;

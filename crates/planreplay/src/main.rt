@@ -6,153 +6,53 @@
 // its place counted from 1, and then the two closing lines.
 #![tactic(auto)]
 
-use arguments::{STEPS, Start, read_start};
-use display::{Checked, refusal_number};
-use machine::Limits;
+ghost use Rattle.std.proofs.Common.{lit<};
+
+use arguments::{Program, STEPS, start};
 use options::Form;
 use planner::NUMBERS;
+use recorded::{RECORDS, Records, run};
 use replay::CALL_BYTES;
 use replay_text::TEXT;
-use std::io::Stderr;
-use streams::{Input, Streams, cut_at, read_input, say, say_cut, say_error, say_refused};
-use tape::{LIMITS_BYTES, LimitsRead};
 
-// Bytes of a chunk: as many calls as are run at a time.
-const CHUNK: usize = CALL_BYTES * replay_text::CALLS;
-// Reading ends at this many calls, which no input has.
-const MOST_CALLS: u64 = 18_446_744_073_709_551_000;
+// Bytes of a chunk.
+const CHUNK: usize = CALL_BYTES * RECORDS;
 
-// How running all calls ended.
+// The calls of a planner.
 #[derive(Clone, Copy)]
-enum Ended {
-    // the place from 1 of the call that the input ends inside; 0 where it ends with a whole call
-    At(u64),
-    // standard output did not take the lines
-    Unwritten,
-    // standard input could not be read to its end
-    Unread,
-}
+struct Calls;
 
-// Runs the calls of a chunk and writes their lines. Returns whether they were taken.
-fn run_chunk(
-    streams: Streams,
-    bytes: &[u8],
-    memory: &mut [u64; NUMBERS],
-    text: &mut [u8; TEXT],
-) -> bool {
-    let end = replay_text::run_chunk(bytes, memory, text);
-    say(streams.output, end, text)
-}
+impl Records for Calls {
+    ghost SIZE = { 28 };
 
-// Runs all calls of the input, as long as it can be read and their lines are taken.
-fn run_calls(streams: Streams, memory: &mut [u64; NUMBERS], text: &mut [u8; TEXT]) -> Ended {
-    let mut chunk = [0u8; CHUNK];
-    let mut calls: u64 = 0;
-    while calls < MOST_CALLS {
-        let Input::Bytes(got) = read_input(streams.input, &mut chunk) else {
-            return Ended::Unread;
-        };
-        if !run_chunk(streams, &chunk[..got], memory, text) {
-            return Ended::Unwritten;
-        }
-        if got < CHUNK {
-            return Ended::At(cut_at(CALL_BYTES, calls, got));
-        }
-        calls += replay_text::CALLS as u64;
+    ghost sized = { lit< tt };
+
+    const SIZE: usize = CALL_BYTES;
+
+    fn run_chunk(
+        &mut self,
+        bytes: &[u8],
+        memory: &mut [u64; NUMBERS],
+        text: &mut [u8; TEXT],
+    ) -> usize {
+        replay_text::run_chunk(bytes, memory, text)
     }
-    Ended::At(0)
-}
 
-// Says that standard output did not take a text.
-fn say_unwritten(errors: Stderr) {
-    say_error(
-        errors,
-        b"planreplay: standard output did not take all lines\n",
-    );
-}
-
-// Says that standard input was not read to its end.
-fn say_unread(errors: Stderr) {
-    say_error(
-        errors,
-        b"planreplay: standard input could not be read to its end\n",
-    );
-}
-
-// Writes the line of a call that the input ends inside, where there is one, and the closing lines.
-// Returns whether they were taken.
-fn finish(streams: Streams, place: u64, memory: &[u64; NUMBERS], text: &mut [u8; TEXT]) -> bool {
-    if !say_cut(streams.output, place, text) {
-        return false;
-    }
-    let end = replay_text::close(memory, text);
-    say(streams.output, end, text)
-}
-
-// Runs the calls behind the limits, and closes.
-fn run_to_end(streams: Streams, memory: &mut [u64; NUMBERS], text: &mut [u8; TEXT]) {
-    match run_calls(streams, memory, text) {
-        Ended::At(place) => {
-            if !finish(streams, place, memory, text) {
-                say_unwritten(streams.errors);
-            }
-        }
-        Ended::Unwritten => say_unwritten(streams.errors),
-        Ended::Unread => say_unread(streams.errors),
-    }
-}
-
-// Writes the one line of limits or steps that are refused.
-fn refuse(streams: Streams, number: u64, text: &mut [u8; TEXT]) {
-    if !say_refused(streams.output, number, 0, text) {
-        say_unwritten(streams.errors);
-    }
-}
-
-// Runs the calls of a planner with these limits and loaded steps, or says why there is none.
-fn replay(streams: Streams, l: Limits, steps: &[u8], text: &mut [u8; TEXT]) {
-    let mut memory = [0u64; NUMBERS];
-    match planner::fresh(&mut memory, l, steps) {
-        Checked::Refused(why) => refuse(streams, refusal_number(why), text),
-        Checked::Passed => run_to_end(streams, &mut memory, text),
-    }
-}
-
-// What the bytes of the limits say decides, then the steps.
-fn start(streams: Streams, head: &[u8], steps: &[u8], text: &mut [u8; TEXT]) {
-    match tape::limits::read_limits(head) {
-        LimitsRead::Read(l) => replay(streams, l, steps, text),
-        LimitsRead::Refused(why) => refuse(streams, refusal_number(why), text),
-    }
-}
-
-// Runs the trace of standard input with loaded steps.
-fn replay_input(streams: Streams, steps: &[u8]) {
-    let mut text = [0u8; TEXT];
-    let mut head = [0u8; LIMITS_BYTES];
-    match read_input(streams.input, &mut head) {
-        Input::Bytes(got) => start(streams, &head[..got], steps, &mut text),
-        Input::Failed(_) => say_unread(streams.errors),
+    fn close(&self, memory: &[u64; NUMBERS], text: &mut [u8; TEXT]) -> usize {
+        replay_text::close(memory, text)
     }
 }
 
 fn main(rt: HostRuntime) {
-    let streams = Streams {
-        input: rt.stdin(),
-        output: rt.stdout(),
-        errors: rt.stderr(),
-    };
-    let mut steps = [0u8; STEPS];
-    let start = read_start(
-        &rt,
-        streams,
-        b"planreplay",
-        b"usage: planreplay [--steps FILE] < trace\n\
-        Runs recorded calls and writes a line for each: `added`, `refused N`, or the\n\
-        block given out as planlist lists it; then `held N`, and `plan` and its numbers.\n\
-        Refused limits or steps give `refused N at 0`; a cut call K, `refused 9 at K`.\n\
-        FILE: the owner's 8 torque percentages, a byte each; if none or empty, built-in.\n",
-        Form {
+    let program = Program {
+        name: b"planreplay",
+        usage: b"usage: planreplay [--steps FILE] < trace\n\
+            Runs recorded calls and writes a line for each: `added`, `refused N`, or the\n\
+            block given out as planlist lists it; then `held N`, and `plan` and its numbers.\n\
+            Refused limits or steps give `refused N at 0`; a cut call K, `refused 9 at K`.\n\
+            FILE: the owner's 8 torque percentages, a byte each; if none or empty, built-in.\n",
+        output: b"all lines",
+        form: Form {
             steps: true,
             width: false,
             least: 0,
@@ -160,10 +60,8 @@ fn main(rt: HostRuntime) {
             numbers: false,
             input: true,
         },
-        &mut steps,
-    );
-    match start {
-        Start::Work(_, n) => replay_input(streams, &steps[..n]),
-        Start::Done => return,
-    }
+    };
+    start::<STEPS, _>(&rt, program, |streams, _, steps| {
+        run::<CHUNK, _>(streams, steps, Calls)
+    });
 }

@@ -7,7 +7,8 @@ use native.Mathlib.Numerals.{add-one}
 use native.Mathlib.Omega.{arith}
 use lib.ListN.{length, drop, drop_of_length-le}
 use lib.Seq.{drop-cons, drop-length}
-use Rattle.profile.specs.Line.{Span, no_span, cap_at, reach_at}
+use Rattle.profile.specs.Line.{no_span, cap_at, reach_at}
+use Rattle.profile.specs.declared.Span.{Span}
 use Rattle.profile.specs.Passes.{brake, brake_from, start_limit, CanBrake, exit_of}
 
 -- What holds at n, and at each index below n if at the next, holds at each index up to n.

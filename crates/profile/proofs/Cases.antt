@@ -3,7 +3,7 @@
 use mathlib.Core.Path.{◌≡◌, refl}
 use mathlib.Core.List.{◌∷◌, []}
 use Prim.Native.Nat.{ℕ}
-use Rattle.profile.specs.Line.{Span}
+use Rattle.profile.specs.declared.Span.{Span}
 use Rattle.profile.specs.Passes.{brake, start_limit, forward, plan_of}
 use Rattle.profile.specs.Stairs.{stair, stairs_of, stairs_after}
 

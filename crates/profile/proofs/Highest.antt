@@ -8,7 +8,8 @@ use native.Mathlib.Omega.{arith}
 use native.Mathlib.Decide.{dec_le}
 use lib.ListN.{length, drop, replicate}
 use lib.Seq.{ext_get_or}
-use Rattle.profile.specs.Line.{Span, number_at, Lawful, Highest}
+use Rattle.profile.specs.Line.{number_at, Lawful, Highest}
+use Rattle.profile.specs.declared.Span.{Span}
 use Rattle.profile.specs.Passes.{brake, start_limit, CanBrake, plan_of}
 use Rattle.profile.proofs.Brake.{down, brake_drop, brake_cap, start_limit_drop, start_limit_end}
 use Rattle.profile.proofs.Plan.{plan_first, plan_next, plan_keeps, plan_length, plan_none}

@@ -7,7 +7,8 @@ use native.Mathlib.Nat.{le_refl}
 use native.Mathlib.Omega.{arith}
 use lib.ListN.{length, drop, set}
 use lib.Seq.{get_or-set_same, get_or-set_other}
-use Rattle.profile.specs.Line.{Span, cap_at, reach_at, number_at}
+use Rattle.profile.specs.Line.{cap_at, reach_at, number_at}
+use Rattle.profile.specs.declared.Span.{Span}
 use Rattle.profile.specs.Passes.{brake, brake_from, exit_from, Braked, Forwarded}
 use Rattle.profile.proofs.Kept.{braked_end, braked_store, forwarded_first, forwarded_store}
 

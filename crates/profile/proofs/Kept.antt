@@ -7,7 +7,8 @@ use native.Mathlib.Omega.{arith}
 use native.Mathlib.Decide.{dec_le}
 use lib.ListN.{length, drop}
 use lib.Seq.{ext_get_or}
-use Rattle.profile.specs.Line.{Span, cap_at, reach_at, number_at}
+use Rattle.profile.specs.Line.{cap_at, reach_at, number_at}
+use Rattle.profile.specs.declared.Span.{Span}
 use Rattle.profile.specs.Passes.{brake, brake_from, exit_from, forward, Braked, Forwarded}
 use Rattle.profile.proofs.Brake.{brake_drop, brake_end}
 use Rattle.profile.proofs.Plan.{forward_first, forward_next, forward_length}

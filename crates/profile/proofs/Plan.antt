@@ -8,7 +8,8 @@ use native.Mathlib.Omega.{arith}
 use native.Mathlib.Decide.{dec_le}
 use borrow.Author.Tests.{le-leb, lt-leb}
 use lib.ListN.{length, drop, replicate, length-replicate, get_or-eq_default}
-use Rattle.profile.specs.Line.{Span, span_at, number_at}
+use Rattle.profile.specs.Line.{span_at, number_at}
+use Rattle.profile.specs.declared.Span.{Span}
 use Rattle.profile.specs.Passes.{start_limit, CanBrake, exit_of, forward, plan_of}
 use Rattle.profile.proofs.Brake.{exit_keeps}
 

@@ -7,7 +7,8 @@ use native.Mathlib.Omega.{arith}
 use borrow.Author.Tests.{leb-true, leb-false, le-leb, ne_eqb}
 use lib.Dec.{leb}
 use lib.ListN.{length}
-use Rattle.profile.specs.Line.{Span, total_reach}
+use Rattle.profile.specs.Line.{total_reach}
+use Rattle.profile.specs.declared.Span.{Span}
 use Rattle.profile.specs.Passes.{brake}
 use Rattle.profile.specs.Stairs.{Stair, stair, farther, hides, raised, stairs_of, stairs_after, nearer, gaps_of, first_allows}
 

@@ -8,7 +8,8 @@ use native.Mathlib.Omega.{arith}
 use lib.Dec.{leb}
 use lib.ListN.{length, take, drop, length-drop, drop_of_length-le}
 use lib.Seq.{drop-cons}
-use Rattle.profile.specs.Line.{Span, total_reach}
+use Rattle.profile.specs.Line.{total_reach}
+use Rattle.profile.specs.declared.Span.{Span}
 use Rattle.profile.specs.declared.Stay.{Stay}
 use Rattle.profile.specs.Stairs.{Stair, stair, no_stair, stair_from, farther, stairs_of, stairs_after, gaps_of, stay_from}
 use Rattle.profile.proofs.Stairs.{Ended, stairs_ended, stairs_gaps, farther_gaps, stairs_last, all_hidden, hidden_by, staying, pushed, pushed_by, push_farther}

@@ -5,7 +5,8 @@ use Prim.Native.Nat.{ℕ, zero, suc, ◌+◌, ◌-◌, ◌≤◌, ◌<◌, min}
 use native.Mathlib.Numerals.{add-one}
 use native.Mathlib.Omega.{arith}
 use lib.ListN.{length, drop}
-use Rattle.profile.specs.Line.{Span, cap_at, reach_at, total_reach, number_at}
+use Rattle.profile.specs.Line.{cap_at, reach_at, total_reach, number_at}
+use Rattle.profile.specs.declared.Span.{Span}
 use Rattle.profile.specs.Passes.{brake, CanBrake, exit_of, plan_of}
 use Rattle.profile.proofs.Brake.{down, brake_drop, brake_end, brake_longer}
 use Rattle.profile.proofs.Plan.{plan_first, plan_next}

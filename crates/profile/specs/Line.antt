@@ -1,12 +1,7 @@
 -- Lawful and highest profiles of a line of blocks, in the words of document 01, "Plan, give out, ramp".
 -- Speeds, caps and reaches are squared speeds, in (µm/s)².
 use Rattle.std.specs.Prelude.{◌≡◌, List, ◌∷◌, [], ℕ, ◌+◌, ◌≤◌, ◌<◌, length, get_or}
-
--- What a profile knows of one block: the junction cap where the block begins, and the block's reach.
--- The cap of a line's first span, at junction 0, is never read.
-pub record Span : Type 0 where
-  pub cap : ℕ
-  pub reach : ℕ
+use Rattle.profile.specs.declared.Span.{Span}
 
 -- What is read past a line's end.
 abbrev pub no_span : Span

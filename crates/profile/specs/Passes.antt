@@ -1,7 +1,8 @@
 -- The backward pass, the forward pass and the plan that they make: document 01's plan, computed.
 -- All numbers are squared speeds, in (µm/s)².
 use Rattle.std.specs.Prelude.{Bool, cond, ◌≡◌, List, ◌∷◌, [], ℕ, ◌+◌, ◌≤◌, min, leb, length, drop, replicate}
-use Rattle.profile.specs.Line.{Span, number_at}
+use Rattle.profile.specs.Line.{number_at}
+use Rattle.profile.specs.declared.Span.{Span}
 
 -- One step of the backward pass: the greatest squared speed where a block begins, under its junction cap, from
 -- which the block can brake to the squared speed `after` at its end.

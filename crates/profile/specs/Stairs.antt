@@ -1,7 +1,7 @@
 -- The stairs of a line: the junctions that can ever be what its backward pass is held by, whatever is added last and however
 -- many blocks are taken first, and how far apart they are. All numbers are squared speeds, in (µm/s)².
 use Rattle.std.specs.Prelude.{Bool, true, false, cond, List, ◌∷◌, [], ℕ, zero, suc, ◌+◌, ◌-◌, ◌%◌, ◌^◌, eqb, leb, get_or}
-use Rattle.profile.specs.Line.{Span}
+use Rattle.profile.specs.declared.Span.{Span}
 use Rattle.profile.specs.declared.Stay.{Stay}
 
 -- One stair: the reaches between the stair before and it, and the junction cap there. The gap of the first is counted from

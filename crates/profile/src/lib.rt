@@ -5,9 +5,17 @@
 ghost use Rattle.std.specs.Prelude.{◌≡◌, ◌+◌, min};
 ghost use Rattle.profile.specs.Passes.{brake_from, exit_from};
 
+// What a profile knows of one block: the junction cap where the block begins, and the block's reach, (µm/s)². The cap of a line's
+// first span, at junction 0, is never read.
+#[derive(Clone, Copy, Debug, Default, PartialEq, Eq, Hash)]
+pub struct Span {
+    pub cap: u64,
+    pub reach: u64,
+}
+
 // Where the stairs that stay end when a new junction is put behind them: how many stay, and what the new junction allows at
 // the last of them, (µm/s)².
-#[derive(Clone, Copy)]
+#[derive(Clone, Copy, Debug, PartialEq, Eq, Hash)]
 pub struct Stay {
     pub count: u64,
     pub allows: u64,
@@ -17,13 +25,7 @@ pub struct Stay {
 fn limited(limit: u64, speed: u64, reach: u64) -> u64
     ensures { result ≡ min limit (speed + reach) }
 {
-    if limit <= speed {
-        return limit;
-    }
-    if limit - speed <= reach {
-        return limit;
-    }
-    speed + reach
+    limit.min(speed.saturating_add(reach))
 }
 
 // Backward: the greatest squared speed where a block begins, under its junction cap, from which it can brake to `after`.

@@ -5,17 +5,17 @@ ghost use Rattle.std.specs.Prelude.{◌≡◌, ◌^◌, ◌<◌};
 ghost use Rattle.machine.specs.Numbers.{Rampable, peak_of, ramp_of, rampable, sized};
 ghost use Rattle.line.specs.Answers.{given_between, ramp_between};
 
-use arith::whole::{less, smaller};
 use line::Given;
 use machine::measure::UNIT;
 use machine::{Block, Numbers, Ramp};
 
-// The peak of a block with these numbers between two squared speeds of a plan, (µm/s)².
+// The peak of a block with these numbers between two squared speeds of a plan, (µm/s)². Numbers and speeds are three values, here and
+// below: the numbers are a block's, the speeds a plan's.
 pub fn peak_of(n: Numbers, entry: u64, exit: u64) -> u64
     requires { (n.reach < 2 ^ 62) × (entry < 2 ^ 62) × (exit < 2 ^ 62) }
     ensures { result ≡ peak_of n.cap n.reach entry exit }
 {
-    smaller(n.cap, (n.reach + entry + exit) / 2)
+    n.cap.min((n.reach + entry + exit) / 2)
 }
 
 // The ramp. Only a plan's speeds meet what is required of entry and exit. Half of the divisor, or one less, is added before a
@@ -29,10 +29,10 @@ fn ramp(n: Numbers, entry: u64, exit: u64) -> Ramp
     let up = (UNIT * (peak - entry) + accel - 1) / (2 * accel);
     let down = (UNIT * (peak - exit) + accel) / (2 * accel);
     Ramp {
-        peak: peak,
-        up: up,
-        cruise: less(less(n.length, up), down),
-        down: down,
+        peak,
+        up,
+        cruise: n.length.saturating_sub(up).saturating_sub(down),
+        down,
     }
 }
 
@@ -51,26 +51,22 @@ fn is_sized(n: Numbers, entry: u64, exit: u64) -> bool
 fn is_rampable(n: Numbers, entry: u64, exit: u64) -> bool
     ensures { result ≡ rampable n entry exit }
 {
-    let falls = entry <= std::num::wrapping_add_u64(exit, n.reach);
-    let rises = exit <= std::num::wrapping_add_u64(entry, n.reach);
+    let falls = entry <= exit.wrapping_add(n.reach);
+    let rises = exit <= entry.wrapping_add(n.reach);
     is_sized(n, entry, exit) & (falls & rises)
 }
 
 // The ramp between two squared speeds, (µm/s)²; zeros for speeds that no plan has at a block's ends. This is the one door to a
-// ramp, for the crates that take both speeds from a plan: `planner`, `tape_rows`, `listing` and `report`. A crate that does not
-// list `ramps` in crates.txt cannot name it, so it cannot make a ramp; that no other crate lists it is tested (tests/run).
+// ramp, for the crates that take both speeds from a plan: `planner` and `tape_rows`, by `given_between`, `listing` and `report`. A
+// crate that does not list `ramps` in crates.txt cannot name it, so it cannot make a ramp; that no other crate lists it is tested
+// (tests/run).
 pub fn ramp_between(n: Numbers, entry: u64, exit: u64) -> Ramp
     ensures { result ≡ ramp_between n entry exit }
 {
     if is_rampable(n, entry, exit) {
         return ramp(n, entry, exit);
     }
-    Ramp {
-        peak: 0,
-        up: 0,
-        cruise: 0,
-        down: 0,
-    }
+    Ramp::default()
 }
 
 // A block given out, from its numbers and the entry and exit that a plan has at its ends, (µm/s)².
@@ -81,8 +77,8 @@ pub fn given_between(b: Block, n: Numbers, entry: u64, exit: u64) -> Given
         block: b,
         length: n.length,
         accel: n.accel,
-        entry: entry,
-        exit: exit,
+        entry,
+        exit,
         ramp: ramp_between(n, entry, exit),
     }
 }

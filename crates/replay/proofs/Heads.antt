@@ -12,8 +12,7 @@ use Rattle.machine.specs.Torque.{machine_of, steps_refusal}
 use Rattle.machine.specs.declared.Limits.{Limits}
 use Rattle.display.specs.declared.Refusal.{Refusal}
 use Rattle.display.specs.declared.Refusal.TheVariants as why
-use Rattle.display.specs.declared.Checked.{Checked}
-use Rattle.display.specs.declared.Checked.TheVariants as check
+use Rattle.std.specs.Prelude.{⊤, Result, Ok, Err}
 use Rattle.display.specs.Display.{refusal_number, checked_means, given, refused}
 use Rattle.display.proofs.Answers.{refusal_above, then_first, then_second, then_zero, not_picked, given_is, refused_is}
 use Rattle.planner.specs.Calls.{Freshened}
@@ -23,7 +22,6 @@ use Rattle.tape.proofs.Checks.{limits_faultless}
 use Rattle.replay.specs.Trace.{call_bytes, calls_in, trace_calls, ragged_trace, trace_refusal, read_trace}
 use Rattle.replay.specs.Rows.{row_size}
 use Rattle.replay.specs.Replays.{plan_size, lists_refusal, begin_refusal, replay_refusal, Begun, Demanded, Replays}
-use Rattle.replay.specs.declared.Replayed.TheVariants.{Done, Refused}
 
 module _ (trace : List ℕ) where
   pub head_short : length trace < limits_bytes → trace_refusal trace ≡ 9
@@ -58,12 +56,12 @@ module _ (trace : List ℕ) where
 
 -- What making a planner for a trace answers: the head decides, or the steps do.
 module _ (trace loaded : List ℕ) where
-  pub begun_refused : {memory : List ℕ} (r : Refusal) → read_trace trace ≡ refused (refusal_number r) → Begun trace loaded memory (check.Refused r) memory
+  pub begun_refused : {memory : List ℕ} (r : Refusal) → read_trace trace ≡ refused (refusal_number r) → Begun trace loaded memory (Err r) memory
   begun_refused r e =
       let s = refused_is (limits_at trace) (trace_refusal trace) (trace_refusal trace) (sym e) in
       record { number = s.1 ∙ sym (then_first (steps_refusal loaded) s.0); fresh = λ z. absurd (omega (arith, refusal_above r)) }
 
-  pub begun_fresh : {memory memory' : List ℕ} {l : Limits} {r : Checked} → read_trace trace ≡ given l → Freshened memory l loaded (checked_means r) memory'
+  pub begun_fresh : {memory memory' : List ℕ} {l : Limits} {r : Result ⊤ Refusal} → read_trace trace ≡ given l → Freshened memory l loaded (checked_means r) memory'
       → Begun trace loaded memory r memory'
   begun_fresh {memory} {memory'} {l} {r} e f =
       let head = head_given trace e in
@@ -82,7 +80,7 @@ module _ (trace loaded : List ℕ) where
 -- What a trace is answered.
 module _ (trace loaded answers plan : List ℕ) where
   -- refused by a number
-  refused_by : (r : Refusal) → replay_refusal trace loaded (length answers) (length plan) ≡ refusal_number r → Replays trace loaded answers plan (Refused r) answers plan
+  refused_by : (r : Refusal) → replay_refusal trace loaded (length answers) (length plan) ≡ refusal_number r → Replays trace loaded answers plan (Err r) answers plan
   refused_by r e =
       let above = refusal_above r in
       record {
@@ -92,19 +90,19 @@ module _ (trace loaded answers plan : List ℕ) where
       }
 
   -- by its head or the steps
-  pub begin_refused : (r : Refusal) → refusal_number r ≡ begin_refusal trace loaded → Replays trace loaded answers plan (Refused r) answers plan
+  pub begin_refused : (r : Refusal) → refusal_number r ≡ begin_refusal trace loaded → Replays trace loaded answers plan (Err r) answers plan
   unfolding replay_refusal
   begin_refused r e =
       let above : 0 < begin_refusal trace loaded = rw (← e) (refusal_above r) in
       refused_by r (then_first (lists_refusal trace (length answers) (length plan)) above ∙ sym e)
 
   -- by the length of a list
-  pub answers_refused : begin_refusal trace loaded ≡ 0 → (length answers ≡ row_size * calls_in trace → ⊥) → Replays trace loaded answers plan (Refused why.List) answers plan
+  pub answers_refused : begin_refusal trace loaded ≡ 0 → (length answers ≡ row_size * calls_in trace → ⊥) → Replays trace loaded answers plan (Err why.List) answers plan
   unfolding replay_refusal
   answers_refused e h = refused_by why.List (then_second e (ap (λ (t : Bool). cond (t && eqb (length plan) plan_size) 0 11) (ne_eqb (length answers) (row_size * calls_in trace) h)))
 
   pub plan_refused : begin_refusal trace loaded ≡ 0 → length answers ≡ row_size * calls_in trace → (length plan ≡ plan_size → ⊥)
-      → Replays trace loaded answers plan (Refused why.List) answers plan
+      → Replays trace loaded answers plan (Err why.List) answers plan
   unfolding replay_refusal
   plan_refused e a h =
       refused_by why.List
@@ -112,7 +110,7 @@ module _ (trace loaded answers plan : List ℕ) where
 
   -- run
   pub trace_run : {answers' plan' : List ℕ} (told : ℕ) → begin_refusal trace loaded ≡ 0 → length answers ≡ row_size * calls_in trace → length plan ≡ plan_size
-      → Demanded (machine_of (limits_at trace) loaded) (trace_calls trace) told answers' plan plan' → Replays trace loaded answers plan (Done told) answers' plan'
+      → Demanded (machine_of (limits_at trace) loaded) (trace_calls trace) told answers' plan plan' → Replays trace loaded answers plan (Ok told) answers' plan'
   unfolding replay_refusal
   trace_run told e a p d =
       record {

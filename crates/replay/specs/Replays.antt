@@ -1,7 +1,7 @@
 -- What running a trace promises: demand 3 of its list of calls. Nothing here names what a planner keeps.
-use Rattle.std.specs.Prelude.{◌≡◌, List, ◌&&◌, cond, ℕ, ◌+◌, ◌*◌, ◌<◌, eqb, length, take, drop}
+use Rattle.std.specs.Prelude.{◌≡◌, List, ◌&&◌, cond, ℕ, ◌+◌, ◌*◌, ◌<◌, eqb, length, take, drop, ⊤, Result, Ok, Err}
 use Rattle.display.specs.Display.{refusal_number, checked_means, ◌then◌}
-use Rattle.display.specs.declared.Checked.{Checked}
+use Rattle.display.specs.declared.Refusal.{Refusal}
 use Rattle.machine.specs.Torque.{machine_of, steps_refusal}
 use Rattle.machine.specs.declared.Machine.{Machine}
 use Rattle.line.specs.Answers.{Answer, accepted}
@@ -11,8 +11,6 @@ use Rattle.planner.specs.Calls.{Freshened}
 use Rattle.tape.specs.Tape.{limits_at}
 use Rattle.replay.specs.Trace.{calls_in, trace_calls, trace_refusal}
 use Rattle.replay.specs.Rows.{row_size, rows_of}
-use Rattle.replay.specs.declared.Replayed.{Replayed}
-use Rattle.replay.specs.declared.Replayed.TheVariants.{Done, Refused}
 
 -- numbers of the list that is lent for the plan: as many as the longest line has junctions
 abbrev pub plan_size : ℕ
@@ -31,16 +29,16 @@ unfoldable pub replay_refusal : (trace loaded : List ℕ) (answers plan : ℕ) �
 replay_refusal trace loaded answers plan = begin_refusal trace loaded then lists_refusal trace answers plan
 
 -- the number on the display, 0 where the trace was run, and the number told
-abbrev pub replayed_means : Replayed → ℕ
-replayed_means (Done told) = 0
-replayed_means (Refused why) = refusal_number why
+abbrev pub replayed_means : Result ℕ Refusal → ℕ
+replayed_means (Ok told) = 0
+replayed_means (Err why) = refusal_number why
 
-abbrev pub told_in : Replayed → ℕ
-told_in (Done told) = told
-told_in (Refused why) = 0
+abbrev pub told_in : Result ℕ Refusal → ℕ
+told_in (Ok told) = told
+told_in (Err why) = 0
 
 -- A fresh planner for a trace, or a refusal.
-pub record Begun (trace loaded memory : List ℕ) (r : Checked) (memory' : List ℕ) : Type 0 where
+pub record Begun (trace loaded memory : List ℕ) (r : Result ⊤ Refusal) (memory' : List ℕ) : Type 0 where
   pub number : checked_means r ≡ begin_refusal trace loaded
   pub fresh : checked_means r ≡ 0 → Freshened memory (limits_at trace) loaded 0 memory'
 
@@ -58,7 +56,7 @@ pub record Unchanged (answers plan answers' plan' : List ℕ) : Type 0 where
   pub plan_same : plan' ≡ plan
 
 -- A trace that is run with loaded torque steps, or refused.
-pub record Replays (trace loaded answers plan : List ℕ) (r : Replayed) (answers' plan' : List ℕ) : Type 0 where
+pub record Replays (trace loaded answers plan : List ℕ) (r : Result ℕ Refusal) (answers' plan' : List ℕ) : Type 0 where
   pub number : replayed_means r ≡ replay_refusal trace loaded (length answers) (length plan)
   pub run : replayed_means r ≡ 0 → Demanded (machine_of (limits_at trace) loaded) (trace_calls trace) (told_in r) answers' plan plan'
   pub refused : 0 < replayed_means r → Unchanged answers plan answers' plan'

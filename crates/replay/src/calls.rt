@@ -6,12 +6,16 @@ ghost use Rattle.replay.specs.Trace.{block_of, call_bytes, call_in, call_of, cal
 ghost use Rattle.replay.specs.Rows.{row_from, row_of, row_size};
 
 use crate::{BEFORE_GIVEN, CALL_BYTES};
-use display::refusal_number;
+use display::{Refusal, refusal_number};
 use fields::{to_bits, to_signed};
 use line::lists::{no_given, store_given_numbers};
-use line::{Answer, Call, Given};
+use line::{Call, Given};
 use machine::Block;
 use machine::blocks::plain_block;
+
+// The bytes of a call and the numbers of a row are parts of lists that the caller lends, so they are slices with a length in
+// a clause: as an array each would come out of `first_chunk` as an Option, whose None each call would have to exclude by the same
+// clause.
 
 // Bits of a word.
 const WORD: usize = 32;
@@ -42,7 +46,7 @@ fn block_of(bytes: &[u8]) -> Block
     )
 }
 
-// The call that its bytes say: kind 0 is a take, any other number an add.
+// The call that its bytes say: kind 0 is a take, any other number an add. The number is the format's.
 fn call_of(bytes: &[u8]) -> Call
     requires { length bytes.now ≡ call_bytes }
     ensures { call_means result ≡ call_of bytes.now }
@@ -78,13 +82,15 @@ fn store_row(number: u64, g: Given, row: &mut [u64])
 }
 
 // Writes the row of an answer.
-pub(crate) fn write_row(a: Answer, row: &mut [u64])
+pub(crate) fn write_row(answer: Result<Option<Given>, Refusal>, row: &mut [u64])
     requires { length row.old ≡ row_size }
-    ensures { row.new ≡ row_of (answer_means a) }
+    ensures { row.new ≡ row_of (answer_means answer) }
 {
-    match a {
-        Answer::Accepted => store_row(0, no_given(), row),
-        Answer::Gave(g) => store_row(0, g, row),
-        Answer::Refused(why) => store_row(refusal_number(why), no_given(), row),
+    match answer {
+        Ok(given) => match given {
+            None => store_row(0, no_given(), row),
+            Some(g) => store_row(0, g, row),
+        },
+        Err(why) => store_row(refusal_number(why), no_given(), row),
     }
 }

@@ -6,7 +6,7 @@ use native.Mathlib.Omega.{arith}
 use lib.ListN.{length, get_or}
 use Rattle.replay.specs.Replays.{plan_size}
 use Rattle.text.specs.Store.{place_behind, Answered}
-use Rattle.text.specs.declared.Put.{Put}
+use Rattle.std.specs.Prelude.{Option}
 use Rattle.text.specs.Text as text
 use Rattle.text.proofs.Store.{stored_with_room, stored_next, length_put}
 use Rattle.text.proofs.Lines.{line_most}
@@ -24,7 +24,7 @@ refused_few n h = omega (arith, line_most text.refused_word (n ∷ []) (below n 
 
 -- The closing lines have room.
 pub both_lines : (told : ℕ) → told < 2 ^ 64 → (plan : List ℕ) → ((i : ℕ) → get_or plan i 0 < 2 ^ 64) → length plan ≤ plan_size
-    → {s between after : List ℕ} {end last : ℕ} {first second : Put} → length s ≡ text_bytes
+    → {s between after : List ℕ} {end last : ℕ} {first second : Option ℕ} → length s ≡ text_bytes
     → Answered s 0 (text.held told) first between → end ≡ place_behind 0 first
     → Answered between end (text.plan plan) second after → last ≡ place_behind end second → Ended told plan s last after
 both_lines told t plan p few {s} {between} size a e b f =

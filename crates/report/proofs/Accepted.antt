@@ -18,8 +18,8 @@ use Rattle.tape.proofs.Faults.{length_blocks, tape_passed}
 use Rattle.tapeplan.specs.Planned.{WholeTape, most_junctions, tape_machine, tape_plan, tape_spans, whole_refusal}
 use Rattle.tapeplan.specs.Sheet.{measured_at, measured_of, sheet_size}
 use Rattle.tapeplan.specs.declared.Measured.{Measured}
-use Rattle.tapeplan.specs.declared.TapePlanned.{TapePlanned}
-use Rattle.tapeplan.specs.declared.TapePlanned.TheVariants.{Planned}
+use Rattle.std.specs.Prelude.{⊤, Result, Ok}
+use Rattle.display.specs.declared.RefusedAt.{RefusedAt}
 use Rattle.tapeplan.proofs.Answered.{whole_passed}
 use Rattle.tapeplan.proofs.Plans.{accepted_ramps, accepted_records}
 use Rattle.tapeplan.proofs.Surveys.{cap_next}
@@ -52,7 +52,7 @@ module _ (s loaded : List ℕ) (i : ℕ) (passed : whole_refusal s loaded ≡ 0)
   pub reach_below : by_reach (caps_at s i) (speed_at s loaded i) ≡ true → speed_at s loaded i < least_cap (caps_at s i)
   reach_below e = omega (arith, speed_capped, eqb-false (speed_at s loaded i) (least_cap (caps_at s i)) (not-true _ e))
 
-module _ (s loaded sheet plan : List ℕ) (passed : whole_refusal s loaded ≡ 0)
+module _ (s loaded : List ℕ) (sheet : List Measured) (plan : List ℕ) (passed : whole_refusal s loaded ≡ 0)
     (rows : (k : ℕ) → k < records_in s → measured_at sheet k ≡ measured_of (tape_machine s loaded) s k)
     (speeds : (k : ℕ) → k ≤ records_in s → number_at plan k ≡ number_at (tape_plan s loaded) k) where
   abbrev m : Machine
@@ -120,7 +120,7 @@ module _ (s loaded sheet plan : List ℕ) (passed : whole_refusal s loaded ≡ 0
       }
 
 -- The same of a tape that is planned, from the promise of planning it.
-module _ {s loaded work sheet before after : List ℕ} {r : TapePlanned} (w : WholeTape s loaded work sheet before after r) (is : r ≡ Planned) where
+module _ {s loaded : List ℕ} {work sheet : List Measured} {before after : List ℕ} {r : Result ⊤ RefusedAt} (w : WholeTape s loaded work sheet before after r) (is : r ≡ Ok tt) where
   abbrev passed : whole_refusal s loaded ≡ 0
   passed = planned_passed w is
 

@@ -9,6 +9,7 @@ use Rattle.report.specs.Figures.{no_figures}
 use Rattle.report.specs.Rows.{Countable, block_figures, held_figures, held_from, row_figures, row_held, row_length, row_peak, rows_held}
 use Rattle.report.specs.declared.Figures.{Figures}
 use Rattle.report.proofs.Counts.{count_below, sum_below}
+use Rattle.tapeplan.specs.declared.Measured.{Measured}
 
 -- figures whose sums have room for more
 pub record Room (f : Figures) : Type 0 where
@@ -40,7 +41,7 @@ list_next f before to i v h e c =
     subst (λ (x : ℕ). Copying (list_from f 0 n) before (set to i x) (i + 1)) (list_at f 0 n i h ∙ ap f (zero-add i) ∙ sym e)
     (copy_next (list_from f 0 n) before to i (omega (arith, list_length f 0 n)) c)
 
-module _ (sheet plan : List ℕ) where
+module _ (sheet : List Measured) (plan : List ℕ) where
   -- what held junction i, with the next row's number as the code has it
   pub held_between : (i : ℕ) → held_from (measured_at sheet i) (measured_at sheet (i + 1)) (number_at plan (i + 1)) ≡ row_held sheet plan i
   held_between i = ap (λ (j : ℕ). held_from (measured_at sheet i) (measured_at sheet j) (number_at plan j)) (add-one i)
@@ -111,15 +112,3 @@ module _ (sheet plan : List ℕ) where
     where
       held : (what : ℕ) → rows_held sheet plan what (k - 1) < 2 ^ 62
       held what = omega (arith, c.few, count_below (λ i. eqb (row_held sheet plan i) what) (k - 1))
-
-  -- fewer rows can be counted where more can
-  pub countable_fewer : {k n : ℕ} → Countable sheet plan n → k ≤ n → Countable sheet plan k
-  countable_fewer c h =
-      record {
-        few = omega (arith, c.few);
-        rows = omega (arith, c.rows);
-        junctions = omega (arith, c.junctions);
-        lengths = λ i l. c.lengths i (omega arith);
-        reaches = λ i l. c.reaches i (omega arith);
-        speeds = λ i l. c.speeds i (omega arith);
-      }

@@ -1,6 +1,6 @@
 -- The figures of a tape: its blocks, their total length, µm, the greatest peak, (µm/s)², and its inner junctions by what held them.
 use Rattle.std.specs.Prelude.{ℕ, suc, ◌-◌, List, [], ◌∷◌}
-use Rattle.display.specs.Display.{Fault, Outcome, by_number, given, refused, refusal_number, ◌at◌}
+use Rattle.display.specs.Display.{Fault, Outcome, by_number, given, refused}
 use Rattle.profile.specs.Line.{number_at}
 use Rattle.machine.specs.Numbers.{length_of, numbers_of, ramp_of}
 use Rattle.tape.specs.Tape.{record_at, records_in}
@@ -8,8 +8,6 @@ use Rattle.tapeplan.specs.Planned.{tape_machine, tape_plan, whole_fault}
 use Rattle.report.specs.Counts.{sum_to, greatest_to}
 use Rattle.report.specs.Held.{by_feed, by_corner, by_chord, by_reach, held_of}
 use Rattle.report.specs.declared.Figures.{Figures}
-use Rattle.report.specs.declared.Figured.{Figured}
-use Rattle.report.specs.declared.Figured.TheVariants as figured
 
 -- length and peak of block k of a tape; the peak is that of its ramp between the plan's numbers at its two ends
 abbrev pub length_at : (s : List ℕ) (k : ℕ) → ℕ
@@ -32,11 +30,7 @@ figures_of s loaded =
       reach = held_of by_reach s loaded inner;
     }
 
--- number, place and values of each answer, and what a tape with loaded torque steps is answered
-abbrev pub figured_means : Figured → Outcome Fault Figures
-figured_means (figured.Figures f) = given f
-figured_means (figured.Refused why place) = refused (refusal_number why at place)
-
+-- what a tape with loaded torque steps is answered: its figures, or the number and the place of its refusal
 abbrev pub figured_by : Fault → Figures → Outcome Fault Figures
 figured_by fault f = by_number fault.number (given f) (refused fault)
 

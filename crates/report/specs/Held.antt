@@ -1,11 +1,11 @@
 -- What held each inner junction of a tape back: the feed or an axis, the corner, the chord rule, or the reach of the blocks around it. Inner
 -- junction i, counted from 0, lies between blocks i and i + 1 of the tape: it is junction i + 1 of the plan.
-use Rattle.std.specs.Prelude.{ℕ, suc, ◌-◌, Bool, cond, not, ◌&&◌, List, ◌==◌}
+use Rattle.std.specs.Prelude.{ℕ, suc, ◌-◌, Bool, cond, not, ◌&&◌, List, ◌==◌, ⊤, Result}
 use Rattle.profile.specs.Line.{number_at}
 use Rattle.machine.specs.Caps.{JunctionCaps, cap_is, caps_between, least_cap}
 use Rattle.tape.specs.Tape.{record_at, records_in, tape_limits}
 use Rattle.tapeplan.specs.Planned.{FilledTape, tape_plan}
-use Rattle.tapeplan.specs.declared.TapePlanned.{TapePlanned}
+use Rattle.display.specs.declared.RefusedAt.{RefusedAt}
 use Rattle.report.specs.Counts.{count_to, list_from}
 
 -- A junction with these caps and this squared speed of the plan, (µm/s)²: whether the plan is at the junction's cap,
@@ -48,5 +48,5 @@ abbrev pub held_list : (s loaded : List ℕ) → List ℕ
 held_list s loaded = list_from (λ i. held_by (caps_at s i) (speed_at s loaded i)) 0 (inner_in s)
 
 -- a lent list of as many numbers as the tape has inner junctions, else 11, gets what holds each
-abbrev pub HeldTape : (s loaded before after : List ℕ) → TapePlanned → Type 0
+abbrev pub HeldTape : (s loaded before after : List ℕ) → Result ⊤ RefusedAt → Type 0
 HeldTape s loaded before after r = FilledTape s loaded (inner_in s) (held_list s loaded) before after r

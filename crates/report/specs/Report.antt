@@ -12,9 +12,6 @@ use Rattle.report.specs.declared.Figures.{Figures}
 abbrev pub most_tapes : ℕ
 most_tapes = 100
 
-abbrev pub report_size : ℕ
-report_size = 8
-
 abbrev pub tapes_in : (report : List ℕ) → ℕ
 tapes_in report = number_at report 0
 

@@ -9,6 +9,15 @@ use Rattle.tapeplan.specs.Sheet.{measured_at, rows_in}
 use Rattle.tapeplan.specs.declared.Measured.{Measured}
 use Rattle.report.specs.Counts.{count_to, sum_to, greatest_to, one}
 use Rattle.report.specs.declared.Figures.{Figures}
+use Rattle.report.specs.declared.held.HeldBy.{HeldBy}
+use Rattle.report.specs.declared.held.HeldBy.TheVariants as by
+
+-- the number of what holds a junction
+abbrev pub held_number : HeldBy → ℕ
+held_number by.Feed = 0
+held_number by.Corner = 1
+held_number by.Chord = 2
+held_number by.Reach = 3
 
 -- what holds the junction between two blocks: the corner is a number beside their caps, and what is at its cap and held neither by feed nor by
 -- corner is held by the chord rule
@@ -44,19 +53,19 @@ held_figures f held =
     }
 
 -- length and peak of row k, and what holds the junction behind row i, by a list of speeds
-abbrev pub row_length : (sheet : List ℕ) (k : ℕ) → ℕ
+abbrev pub row_length : (sheet : List Measured) (k : ℕ) → ℕ
 row_length sheet k = (measured_at sheet k).numbers.length
 
-abbrev pub row_peak : (sheet plan : List ℕ) (k : ℕ) → ℕ
+abbrev pub row_peak : (sheet : List Measured) (plan : List ℕ) (k : ℕ) → ℕ
 row_peak sheet plan k = peak_of (measured_at sheet k).numbers.cap (measured_at sheet k).numbers.reach (number_at plan k) (number_at plan (suc k))
 
-abbrev pub row_held : (sheet plan : List ℕ) (i : ℕ) → ℕ
+abbrev pub row_held : (sheet : List Measured) (plan : List ℕ) (i : ℕ) → ℕ
 row_held sheet plan i = held_from (measured_at sheet i) (measured_at sheet (suc i)) (number_at plan (suc i))
 
-abbrev pub rows_held : (sheet plan : List ℕ) (what count : ℕ) → ℕ
+abbrev pub rows_held : (sheet : List Measured) (plan : List ℕ) (what count : ℕ) → ℕ
 rows_held sheet plan what count = count_to (λ i. nat_eq (row_held sheet plan i) what) count
 
-unfoldable pub row_figures : (sheet plan : List ℕ) (k : ℕ) → Figures
+unfoldable pub row_figures : (sheet : List Measured) (plan : List ℕ) (k : ℕ) → Figures
 row_figures sheet plan k =
     record {
       blocks = k;
@@ -69,7 +78,7 @@ row_figures sheet plan k =
     }
 
 -- a sheet and a list of speeds that have n rows, whose numbers can be added in 64 bits
-pub record Countable (sheet plan : List ℕ) (n : ℕ) : Type 0 where
+pub record Countable (sheet : List Measured) (plan : List ℕ) (n : ℕ) : Type 0 where
   pub few : n ≤ most_blocks
   pub rows : n ≤ rows_in sheet
   pub junctions : n < length plan

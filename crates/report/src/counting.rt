@@ -1,40 +1,19 @@
 // The figures of a tape, counted row by row of its sheet.
-ghost use Rattle.std.specs.Prelude.{◌≡◌, ◌+◌, ◌^◌, ◌<◌, length, ◌==◌};
-ghost use Rattle.report.specs.Counts.{one};
+ghost use Rattle.std.specs.Prelude.{◌≡◌, ◌+◌, ◌^◌, ◌<◌};
 ghost use Rattle.report.specs.Figures.{no_figures};
-ghost use Rattle.report.specs.Rows.{Countable, block_figures, held_figures, row_figures};
+ghost use Rattle.report.specs.Rows.{Countable, block_figures, held_figures, held_number, row_figures};
 
 use crate::Figures;
-use crate::held::{CHORD, CORNER, FEED, REACH, held_by};
-use arith::whole::larger;
+use crate::held::{HeldBy, held_by};
 use machine::Numbers;
 use ramps::peak_of;
-use tapeplan::sheet::measured_at;
+use tapeplan::Planned;
 
-// A count with one more where what held a junction is this.
-fn counted(count: u64, held: u64, what: u64) -> u64
-    requires { count < 2 ^ 62 }
-    ensures { result ≡ count + one (held == what) }
-{
-    if held == what {
-        return count + 1;
-    }
-    count
-}
-
-// No block was counted.
+// No block was counted: `default` by a name of its own, for the definition `no_figures`.
 pub fn none() -> Figures
     ensures { result ≡ no_figures }
 {
-    Figures {
-        blocks: 0,
-        length: 0,
-        peak: 0,
-        feed: 0,
-        corner: 0,
-        chord: 0,
-        reach: 0,
-    }
+    Figures::default()
 }
 
 // The figures with one block more, driven between two squared speeds of the plan, (µm/s)².
@@ -45,54 +24,58 @@ fn with_block(f: Figures, n: Numbers, entry: u64, exit: u64) -> Figures
     Figures {
         blocks: f.blocks + 1,
         length: f.length + n.length,
-        peak: larger(f.peak, peak_of(n, entry, exit)),
-        feed: f.feed,
-        corner: f.corner,
-        chord: f.chord,
-        reach: f.reach,
+        peak: f.peak.max(peak_of(n, entry, exit)),
+        ..f
     }
 }
 
 // The figures with one inner junction more, by what held it.
-fn with_held(f: Figures, held: u64) -> Figures
+fn with_held(f: Figures, held: HeldBy) -> Figures
     requires { (f.feed < 2 ^ 62) × (f.corner < 2 ^ 62) × (f.chord < 2 ^ 62) × (f.reach < 2 ^ 62) }
-    ensures { result ≡ held_figures f held }
+    ensures { result ≡ held_figures f (held_number held) }
 {
-    Figures {
-        blocks: f.blocks,
-        length: f.length,
-        peak: f.peak,
-        feed: counted(f.feed, held, FEED),
-        corner: counted(f.corner, held, CORNER),
-        chord: counted(f.chord, held, CHORD),
-        reach: counted(f.reach, held, REACH),
+    match held {
+        HeldBy::Feed => Figures {
+            feed: f.feed + 1,
+            ..f
+        },
+        HeldBy::Corner => Figures {
+            corner: f.corner + 1,
+            ..f
+        },
+        HeldBy::Chord => Figures {
+            chord: f.chord + 1,
+            ..f
+        },
+        HeldBy::Reach => Figures {
+            reach: f.reach + 1,
+            ..f
+        },
     }
 }
 
 // The figures of the rows before row k, with those of row k: its block, and the junction where it begins.
-fn with_row(f: Figures, sheet: &[u64], plan: &[u64], k: usize) -> Figures
-    requires { (f ≡ row_figures sheet.now plan.now k) × Countable sheet.now plan.now (k + 1) }
-    ensures { result ≡ row_figures sheet.now plan.now (k + 1) }
+fn with_row(f: Figures, tape: Planned, k: usize) -> Figures
+    requires { (f ≡ row_figures tape.sheet.now tape.plan.now k) × Countable tape.sheet.now tape.plan.now (k + 1) }
+    ensures { result ≡ row_figures tape.entry.sheet.now tape.entry.plan.now (k + 1) }
 {
-    let row = measured_at(sheet, k);
-    let g = with_block(f, row.numbers, plan[k], plan[k + 1]);
+    let row = tape.row(k);
+    let g = with_block(f, row.numbers, tape.plan[k], tape.plan[k + 1]);
     if k == 0 {
         return g;
     }
-    let before = measured_at(sheet, k - 1);
-    with_held(g, held_by(before, row, plan[k]))
+    let before = tape.row(k - 1);
+    with_held(g, held_by(before, row, tape.plan[k]))
 }
 
 // The figures of the first n rows of a sheet, with the plan's squared speeds at the ends of their blocks.
-pub fn count_rows(sheet: &[u64], plan: &[u64], n: usize) -> Figures
-    requires { Countable sheet.now plan.now n }
-    ensures { result ≡ row_figures sheet.now plan.now n }
+pub fn count_rows(tape: Planned, n: usize) -> Figures
+    requires { Countable tape.sheet.now tape.plan.now n }
+    ensures { result ≡ row_figures tape.entry.sheet.now tape.entry.plan.now n }
 {
     let mut f = none();
-    let mut k: usize = 0;
-    while k < n {
-        f = with_row(f, sheet, plan, k);
-        k += 1;
+    for k in 0..n {
+        f = with_row(f, tape, k);
     }
     f
 }

@@ -1,20 +1,19 @@
 // What held tapes back: the figures of a tape, and one report over up to 100 tapes. The figures are the tape's blocks, their
 // total length, the greatest peak, and its inner junctions counted by what held them. A report is `NUMBERS` numbers that the
-// caller lends; every content of them is answered. What the calls answer and leave is in specs/Figures.antt and Report.antt.
+// caller lends, C too, and no type of this crate; every content of them is answered. What the calls answer and leave is in
+// specs/Figures.antt and Report.antt.
 #![tactic(auto)]
 
 mod counting;
 pub mod held;
 pub mod tapes;
 
-ghost use Rattle.std.specs.Prelude.{◌≡◌, length};
-ghost use Rattle.report.specs.Figures.{figured_means};
-ghost use Rattle.report.specs.Report.{Reported, added, all_of, fresh_report, report_numbers, report_size, with_figures};
+ghost use Rattle.std.specs.Prelude.{◌≡◌};
+ghost use Rattle.display.specs.Display.{placed_outcome_of};
+ghost use Rattle.report.specs.Report.{Reported, all_of, fresh_report, report_numbers, with_figures};
 
-use arith::whole::larger;
 use counting::none;
-use display::Refusal;
-use std::num::wrapping_add_u64;
+use display::{Refusal, RefusedAt};
 use tapes::figures_of;
 
 // Numbers of a report: how many tapes were accepted, and the seven figures of all of them.
@@ -23,7 +22,7 @@ pub const NUMBERS: usize = 8;
 pub const MOST_TAPES: u64 = 100;
 
 // The figures of a tape, or of all tapes of a report.
-#[derive(Clone, Copy)]
+#[derive(Clone, Copy, Debug, Default, PartialEq, Eq, Hash)]
 pub struct Figures {
     pub blocks: u64,
     // total length, µm
@@ -37,84 +36,29 @@ pub struct Figures {
     pub reach: u64,
 }
 
-// The answer of a call for a tape's figures.
-#[derive(Clone, Copy)]
-pub enum Figured {
-    Figures(Figures),
-    // why, and the place of the record at fault, counted from 1; 0 where no record is at fault
-    Refused(Refusal, usize),
-}
-
-// A sum in 64 bits.
-fn sum(a: u64, b: u64) -> u64
-    ensures { result ≡ added a b }
-{
-    wrapping_add_u64(a, b)
-}
-
-// The figures of all tapes in a list of a report's numbers.
-fn all_in(report: &[u64]) -> Figures
-    requires { length report.now ≡ report_size }
-    ensures { result ≡ all_of report.now }
-{
-    Figures {
-        blocks: report[1],
-        length: report[2],
-        peak: report[3],
-        feed: report[4],
-        corner: report[5],
-        chord: report[6],
-        reach: report[7],
-    }
-}
-
-// The figures of all with those of one more tape: sums, and the greater peak.
+// The figures of all with those of one more tape: sums in 64 bits, and the greater peak.
+#[tactic(auto, unfolding(crate::specs::Report::with_figures))]
 fn with_figures(all: Figures, f: Figures) -> Figures
     ensures { result ≡ with_figures all f }
 {
     Figures {
-        blocks: sum(all.blocks, f.blocks),
-        length: sum(all.length, f.length),
-        peak: larger(all.peak, f.peak),
-        feed: sum(all.feed, f.feed),
-        corner: sum(all.corner, f.corner),
-        chord: sum(all.chord, f.chord),
-        reach: sum(all.reach, f.reach),
+        blocks: all.blocks.wrapping_add(f.blocks),
+        length: all.length.wrapping_add(f.length),
+        peak: all.peak.max(f.peak),
+        feed: all.feed.wrapping_add(f.feed),
+        corner: all.corner.wrapping_add(f.corner),
+        chord: all.chord.wrapping_add(f.chord),
+        reach: all.reach.wrapping_add(f.reach),
     }
 }
 
-// Stores a report's numbers.
-fn store(report: &mut [u64], tapes: u64, all: Figures)
-    requires { length report.old ≡ report_size }
+// Stores a report's numbers. No `From`: the list is the caller's, and is stored in place.
+fn store(report: &mut [u64; NUMBERS], tapes: u64, all: Figures)
     ensures { report.new ≡ report_numbers tapes all }
 {
-    report[0] = tapes;
-    report[1] = all.blocks;
-    report[2] = all.length;
-    report[3] = all.peak;
-    report[4] = all.feed;
-    report[5] = all.corner;
-    report[6] = all.chord;
-    report[7] = all.reach;
-}
-
-// Reports a tape in a list of a report's numbers.
-fn add_to(report: &mut [u64], tape: &[u8], steps: &[u8]) -> Figured
-    requires { length report.old ≡ report_size }
-    ensures { Reported report.old tape.now steps.now (figured_means result) report.new }
-{
-    let tapes = report[0];
-    if MOST_TAPES <= tapes {
-        return Figured::Refused(Refusal::Many, 0);
-    }
-    match figures_of(tape, steps) {
-        Figured::Refused(why, place) => Figured::Refused(why, place),
-        Figured::Figures(f) => {
-            let all = with_figures(all_in(report), f);
-            store(report, tapes + 1, all);
-            Figured::Figures(f)
-        }
-    }
+    *report = [
+        tapes, all.blocks, all.length, all.peak, all.feed, all.corner, all.chord, all.reach,
+    ];
 }
 
 // Makes a fresh report: no tape was accepted.
@@ -126,15 +70,31 @@ pub fn fresh(report: &mut [u64; NUMBERS])
 
 // Adds a tape, planned with the torque steps that are loaded, eight bytes, or none for the built-in steps, and answers its own
 // figures. Refuses by 10 after 100 accepted tapes, at place 0, then as `tapes::figures_of`; a refused tape changes nothing.
-pub fn add(report: &mut [u64; NUMBERS], tape: &[u8], steps: &[u8]) -> Figured
-    ensures { Reported report.old tape.now steps.now (figured_means result) report.new }
+pub fn add(report: &mut [u64; NUMBERS], tape: &[u8], steps: &[u8]) -> Result<Figures, RefusedAt>
+    ensures { Reported report.old tape.now steps.now (placed_outcome_of result) report.new }
 {
-    add_to(report, tape, steps)
+    let tapes = report[0];
+    if MOST_TAPES <= tapes {
+        return Err(Refusal::Many.into());
+    }
+    let f = figures_of(tape, steps)?;
+    let sum = with_figures(all(report), f);
+    store(report, tapes + 1, sum);
+    Ok(f)
 }
 
 // The figures of all tapes that were accepted.
 pub fn all(report: &[u64; NUMBERS]) -> Figures
     ensures { result ≡ all_of report.now }
 {
-    all_in(report)
+    let [_, blocks, length, peak, feed, corner, chord, reach] = *report;
+    Figures {
+        blocks,
+        length,
+        peak,
+        feed,
+        corner,
+        chord,
+        reach,
+    }
 }

@@ -6,7 +6,7 @@ use lib.ListN.{take}
 use Rattle.display.specs.Display.{Fault, Outcome}
 use Rattle.line.specs.Chains.{none, next}
 use Rattle.text.specs.Store.{Answered}
-use Rattle.text.specs.declared.Put.TheVariants.{At}
+use Rattle.std.specs.Prelude.{Some}
 use Rattle.text.proofs.Store.{take_front, was_stored}
 use Rattle.report.specs.Report.{Job, JobDone, ReportedAll, all_of, fresh_report}
 use Rattle.report_text.specs.Text.{PutLine, all_word, figures_line, report_header, report_text, tape_line, tape_lines}
@@ -24,11 +24,11 @@ report_written names c = λ i. report_header ++ tape_lines ((report_sums c).answ
 pub data LinesPut : (report : List ℕ) (jobs : List Job) (names : List (List ℕ)) (answers : List (Outcome Fault Figures)) (report' written : List ℕ) → Type 0 where
   nothing : {report : List ℕ} → LinesPut report [] [] [] report []
   line : {report report₁ report' name text after written : List ℕ} {end : ℕ} {j : Job} {jobs : List Job} {names : List (List ℕ)} {answer : Outcome Fault Figures}
-      {answers : List (Outcome Fault Figures)} → JobDone report j answer report₁ → PutLine (tape_line answer name) name text (At end) after
+      {answers : List (Outcome Fault Figures)} → JobDone report j answer report₁ → PutLine (tape_line answer name) name text (Some end) after
       → LinesPut report₁ jobs names answers report' written → LinesPut report (j ∷ jobs) (name ∷ names) (answer ∷ answers) report' (take end after ++ written)
 
 -- a line that is stored stands at the beginning
-line_front : {text line after : List ℕ} {end : ℕ} → Answered text 0 line (At end) after → take end after ≡ line
+line_front : {text line after : List ℕ} {end : ℕ} → Answered text 0 line (Some end) after → take end after ≡ line
 line_front a = take_front (was_stored refl a).1
 
 lines_put : {report report' written : List ℕ} {jobs : List Job} {names : List (List ℕ)} {answers : List (Outcome Fault Figures)}
@@ -38,8 +38,8 @@ lines_put nothing = (none, refl)
 lines_put (line done put more) = let rest = lines_put more in (next done rest.0, λ i. line_front put.answered i ++ rest.1 i)
 
 pub report_put : {report header after written text all : List ℕ} {begin end : ℕ} {jobs : List Job} {names : List (List ℕ)} {answers : List (Outcome Fault Figures)}
-    → Answered header 0 report_header (At begin) after → LinesPut fresh_report jobs names answers report written
-    → PutLine (figures_line (all_of report) all_word) all_word text (At end) all
+    → Answered header 0 report_header (Some begin) after → LinesPut fresh_report jobs names answers report written
+    → PutLine (figures_line (all_of report) all_word) all_word text (Some end) all
     → take begin after ++ written ++ take end all ≡ report_text jobs names
 report_put {names} h lines a =
     let tapes = lines_put lines in

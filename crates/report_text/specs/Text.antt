@@ -1,9 +1,8 @@
 -- The text of a report, as ASCII bytes: a header, a line for each tape with its name, and a line for all.
-use Rattle.std.specs.Prelude.{List, ◌∷◌, ◌++◌, [], ℕ, ◌+◌, ◌*◌, ◌≤◌, length}
+use Rattle.std.specs.Prelude.{List, ◌∷◌, ◌++◌, [], ℕ, ◌+◌, ◌*◌, ◌≤◌, length, Option}
 use Rattle.display.specs.Display.{Fault, Outcome, given, refused}
 use Rattle.text.specs.Text.{line_feed, named_row, refused_named}
 use Rattle.text.specs.Store.{Answered}
-use Rattle.text.specs.declared.Put.{Put}
 use Rattle.report.specs.Figures.{figure_count, figure_numbers}
 use Rattle.report.specs.Report.{Job, accepted_of, answers_to, total_of}
 use Rattle.report.specs.declared.Figures.{Figures}
@@ -30,7 +29,7 @@ abbrev pub most_line : ℕ
 most_line = 21 * figure_count + 1
 
 -- a line with a name is stored at the beginning of a list whole where it has room, else not at all; figures of 64 bits make no longer one
-pub record PutLine (line name text : List ℕ) (answer : Put) (after : List ℕ) : Type 0 where
+pub record PutLine (line name text : List ℕ) (answer : Option ℕ) (after : List ℕ) : Type 0 where
   pub answered : Answered text 0 line answer after
   pub short : length line ≤ most_line + length name
 

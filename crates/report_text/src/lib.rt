@@ -4,23 +4,24 @@
 #![tactic(auto)]
 
 ghost use Rattle.std.specs.Prelude.{◌≡◌, length};
-ghost use Rattle.report.specs.Figures.{figure_count, figured_means};
+ghost use Rattle.report.specs.Figures.{figure_count};
 ghost use Rattle.report.specs.Report.{all_of};
 ghost use Rattle.report_text.specs.Text.{PutLine, all_word, figures_line, report_header, tape_line};
-ghost use Rattle.display.specs.Display.{refusal_number};
+ghost use Rattle.display.specs.Display.{placed_outcome_of, refusal_number};
 ghost use Rattle.text.specs.Store.{Answered};
 ghost use Rattle.text.specs.Text.{named_row, refused_named};
 
-use display::{Refusal, refusal_number};
+use display::{RefusedAt, refusal_number};
 use report::tapes::{FIGURES, store_figures};
-use report::{Figured, Figures, NUMBERS, all};
-use text::{Put, put_bytes, put_named_row, put_refused_named};
+use report::{Figures, NUMBERS, all};
+use text::{put_bytes, put_named_row, put_refused_named};
 
 // Most bytes of a line beside its name: seven numbers, and a line feed.
 pub const LINE: usize = 21 * FIGURES + 1;
 
 // Stores the header.
-pub fn put_header(text: &mut [u8]) -> Put
+#[tactic(auto, unfolding(crate::specs::Text::report_header))]
+pub fn put_header(text: &mut [u8]) -> Option<usize>
     ensures { Answered text.old 0 report_header result text.new }
 {
     put_bytes(
@@ -31,15 +32,14 @@ pub fn put_header(text: &mut [u8]) -> Put
 }
 
 // Stores the seven numbers of figures and a name.
-fn put_numbers(numbers: &[u64], name: &[u8], text: &mut [u8]) -> Put
-    requires { length numbers.now ≡ figure_count }
+fn put_numbers(numbers: &[u64; FIGURES], name: &[u8], text: &mut [u8]) -> Option<usize>
     ensures { PutLine (named_row numbers.now name.now) name.now text.old result text.new }
 {
     put_named_row(text, 0, numbers, name)
 }
 
 // Stores the line of figures with a name.
-fn put_figures(f: Figures, name: &[u8], text: &mut [u8]) -> Put
+fn put_figures(f: Figures, name: &[u8], text: &mut [u8]) -> Option<usize>
     ensures { PutLine (figures_line f name.now) name.now text.old result text.new }
 {
     let mut numbers = [0u64; FIGURES];
@@ -48,24 +48,24 @@ fn put_figures(f: Figures, name: &[u8], text: &mut [u8]) -> Put
 }
 
 // Stores the line of a refusal with a name.
-fn put_refusal(why: Refusal, place: usize, name: &[u8], text: &mut [u8]) -> Put
-    ensures { PutLine (refused_named (refusal_number why) place name.now) name.now text.old result text.new }
+fn put_refusal(r: RefusedAt, name: &[u8], text: &mut [u8]) -> Option<usize>
+    ensures { PutLine (refused_named (refusal_number r.why) r.place name.now) name.now text.old result text.new }
 {
-    put_refused_named(text, 0, refusal_number(why), place as u64, name)
+    put_refused_named(text, 0, refusal_number(r.why), r.place as u64, name)
 }
 
 // Stores the line of a tape by what it was answered.
-pub fn put_tape(answer: Figured, name: &[u8], text: &mut [u8]) -> Put
-    ensures { PutLine (tape_line (figured_means answer) name.now) name.now text.old result text.new }
+pub fn put_tape(answer: Result<Figures, RefusedAt>, name: &[u8], text: &mut [u8]) -> Option<usize>
+    ensures { PutLine (tape_line (placed_outcome_of answer) name.now) name.now text.old result text.new }
 {
     match answer {
-        Figured::Figures(f) => put_figures(f, name, text),
-        Figured::Refused(why, place) => put_refusal(why, place, name, text),
+        Ok(f) => put_figures(f, name, text),
+        Err(r) => put_refusal(r, name, text),
     }
 }
 
 // Stores the line of all tapes.
-pub fn put_all(report: &[u64; NUMBERS], text: &mut [u8]) -> Put
+pub fn put_all(report: &[u64; NUMBERS], text: &mut [u8]) -> Option<usize>
     ensures { PutLine (figures_line (all_of report.now) all_word) all_word text.old result text.new }
 {
     put_figures(all(report), b"all", text)

@@ -8,7 +8,6 @@ use Rattle.machine.specs.Checks.{greatest_move, block_refusal}
 use Rattle.machine.specs.Labels.{plain_block}
 use Rattle.machine.specs.declared.Block.{Block}
 use Rattle.text.specs.Text.{value_behind}
-use Rattle.words.specs.Leading.{leading, behind}
 use Rattle.words.specs.Lines.{lines_of}
 use Rattle.words.specs.Number.{of_decimals, with_decimals, after_sign, number_in}
 use Rattle.words.specs.Pieces.{pieces_from}
@@ -91,5 +90,5 @@ table =
     ∷ []
 
 worked : runs table ≡ expected table
-unfolding table runs expected text_run with_lines with_line with_words with_block modal_after position_of length_in feed_of rounded_of block_between lines_of line.behind_words with_pieces with_word pieces_from number_in after_sign with_decimals of_decimals leading behind value_behind greatest_move block_refusal
+unfolding table runs expected text_run with_lines with_line with_words with_block modal_after position_of length_in feed_of rounded_of block_between lines_of line.behind_words with_pieces with_word pieces_from number_in after_sign with_decimals of_decimals value_behind greatest_move block_refusal
 worked = refl

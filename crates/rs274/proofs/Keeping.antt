@@ -11,11 +11,12 @@ use lib.Dec.{eqb, lit<}
 use lib.IntN.{ℤ, nat_abs}
 use lib.ListN.{length, take, drop, length-append, length-drop}
 use lib.Seq.{take_all, take_at}
-use Rattle.display.specs.Display.{refusal_number, checked_means, ◌then◌, Outcome, given, refused, or_refused}
+use Rattle.display.specs.Display.{refusal_number, ◌then◌, Outcome, given, refused, or_refused}
 use Rattle.display.specs.declared.Refusal.{Refusal}
-use Rattle.display.specs.declared.Checked.{Checked}
-use Rattle.display.specs.declared.Checked.TheVariants.{Passed, Refused}
-use Rattle.display.proofs.Answers.{refusal_above, at_zero, above_zero, then_first, then_second, then_zero, told_refused, told_passed}
+use Rattle.display.specs.declared.Refusal.TheVariants as why
+use Rattle.std.specs.Prelude.{⊤, Result, Ok, Err}
+use Rattle.rs274.specs.declared.kept.Kept.{Kept}
+use Rattle.display.proofs.Answers.{refusal_above, at_zero, above_zero, then_first, then_second, then_zero}
 use Rattle.fields.specs.Bytes.{bytes_of, with_bytes}
 use Rattle.fields.proofs.Bytes.{length_bytes}
 use Rattle.machine.specs.Checks.{greatest_move, block_refusal}
@@ -28,13 +29,10 @@ use Rattle.tape.proofs.Answers.{enough}
 use Rattle.tape.proofs.Trips.{record_length}
 use Rattle.words.specs.Words.{Words}
 use Rattle.rs274.specs.Answers.{records_of}
-use Rattle.rs274.specs.Kept.{Holds, Near, too_many, Keeps, Takes}
+use Rattle.rs274.specs.Kept.{kept_bytes, Holds, Near, Keeps, Takes}
 use Rattle.rs274.specs.Modal.{modal_after, block_between, rounded_of, move_of}
 use Rattle.rs274.specs.Text.{Run, run_of, many_blocks, with_block, with_words}
 use Rattle.rs274.specs.declared.Modal.{Modal}
-use Rattle.rs274.specs.declared.Kept.{Kept}
-use Rattle.rs274.specs.declared.Kept.TheVariants as kept
-use Rattle.rs274.specs.declared.LineTaken.TheVariants as taken
 use Rattle.rs274.proofs.Positions.{moved_near}
 
 -- The records of one block more, and how many bytes records have.
@@ -92,30 +90,33 @@ module _ (b : Block) (blocks : List Block) where
 
 -- Keeping a block: one that is still, one too many, one that is refused, and one whose record is written.
 module _ (b : Block) (blocks : List Block) (count : ℕ) (made : List ℕ) (h : Holds made count blocks) where
-  keeps : (o : Outcome ℕ (List Block)) (r : Kept) (left : List ℕ) → with_block b blocks ≡ o → Keeps o r left → Keeps (with_block b blocks) r left
+  keeps : (o : Outcome ℕ (List Block)) (r : Result ⊤ Refusal) (left : Kept) → with_block b blocks ≡ o → Keeps o r left → Keeps (with_block b blocks) r left
   keeps o r left e k = subst (λ (p : Outcome ℕ (List Block)). Keeps p r left) (sym e) k
 
-  pub keeps_still : eqb (greatest_move b) 0 ≡ true → Keeps (with_block b blocks) (kept.At count) made
-  keeps_still e = keeps (given blocks) (kept.At count) made (with_still b blocks e) h
+  pub keeps_still : (after : Kept) → eqb (greatest_move b) 0 ≡ true → Holds after.bytes after.count blocks → Keeps (with_block b blocks) (Ok tt) after
+  keeps_still after e k = keeps (given blocks) (Ok tt) after (with_still b blocks e) k
 
-  pub keeps_many : (checked : Checked) → eqb (greatest_move b) 0 ≡ false → most_blocks ≤ count → checked_means checked ≡ block_refusal b
-      → Keeps (with_block b blocks) (too_many checked) made
-  keeps_many Passed e l is =
-      keeps (refused 10) (too_many Passed) made
-      (with_refused b blocks e (lit< tt) (then_second (sym is) (rw (le-ltb (length blocks) most_blocks (omega (arith, h.counted)))))) refl
-  keeps_many (Refused why) e l is =
-      keeps (refused (refusal_number why)) (too_many (Refused why)) made
+  pub keeps_faulty : (why : Refusal) (after : Kept) → eqb (greatest_move b) 0 ≡ false → refusal_number why ≡ block_refusal b
+      → Keeps (with_block b blocks) (Err why) after
+  keeps_faulty why after e is =
+      keeps (refused (refusal_number why)) (Err why) after
       (with_refused b blocks e (refusal_above why) (then_first (many_blocks blocks) (rw (sym is) (refusal_above why)) ∙ sym is)) refl
+
+  pub keeps_many : (after : Kept) → eqb (greatest_move b) 0 ≡ false → most_blocks ≤ count → block_refusal b ≡ 0
+      → Keeps (with_block b blocks) (Err why.Many) after
+  keeps_many after e l is =
+      keeps (refused 10) (Err why.Many) after
+      (with_refused b blocks e (lit< tt) (then_second is (rw (le-ltb (length blocks) most_blocks (omega (arith, h.counted)))))) refl
 
   module _ (e : eqb (greatest_move b) 0 ≡ false) (room : count < most_blocks) where
     abbrev from : ℕ
     from = record_bytes * count
 
     abbrev part : List ℕ
-    part = mid_of from (length made - from) made
+    part = mid_of from (kept_bytes - from) made
 
     part_is : part ≡ drop from made
-    part_is = take_all (length made - from) (drop from made) (le_of_eq (length-drop from made))
+    part_is = take_all (kept_bytes - from) (drop from made) (le_of_eq (length-drop from made ∙ ap (λ (n : ℕ). n - from) h.sized))
 
     long : record_bytes ≤ length part
     long = rw part_is (rw length-drop (omega (arith, h.sized)))
@@ -128,20 +129,17 @@ module _ (b : Block) (blocks : List Block) (count : ℕ) (made : List ℕ) (h : 
         same zero = refl
         same (suc n) = refl
 
-    pub keeps_refused : (why : Refusal) (r : Checked) (left after : List ℕ) → r ≡ Refused why → Wrote (record_write_refusal b part) (record_written b part) r left
-        → Keeps (with_block b blocks) (kept.Refused why) after
-    keeps_refused why r left after f w =
-        let is : refusal_number why ≡ block_refusal b = sym (told_refused f w.number) ∙ write_refusal in
-        keeps (refused (refusal_number why)) (kept.Refused why) after
-        (with_refused b blocks e (refusal_above why) (then_first (many_blocks blocks) (rw (sym is) (refusal_above why)) ∙ sym is)) refl
+    pub keeps_refused : (why : Refusal) (left : List ℕ) (after : Kept) → Wrote (record_write_refusal b part) (record_written b part) (Err why) left
+        → Keeps (with_block b blocks) (Err why) after
+    keeps_refused why left after w = keeps_faulty why after e (w.number ∙ write_refusal)
 
-    module _ (r : Checked) (left : List ℕ) (f : r ≡ Passed) (w : Wrote (record_write_refusal b part) (record_written b part) r left) where
+    module _ (left : List ℕ) (w : Wrote (record_write_refusal b part) (record_written b part) (Ok tt) left) where
       record_is : left ≡ bytes_of record_bytes (block_number b) ++ drop record_bytes part
       unfolding record_written with_bytes
-      record_is = w.bytes ∙ at_zero (with_bytes part 0 record_bytes (block_number b)) part (told_passed f w.number)
+      record_is = w.bytes ∙ at_zero (with_bytes part 0 record_bytes (block_number b)) part (sym w.number)
 
       abbrev after : List ℕ
-      after = put_mid from (length made - from) made left
+      after = put_mid from (kept_bytes - from) made left
 
       front_length : length (records_of (blocks ++ b ∷ [])) ≡ record_bytes * (count + 1)
       front_length = length_records (blocks ++ b ∷ []) ∙ more (length-append blocks (b ∷ []))
@@ -149,11 +147,11 @@ module _ (b : Block) (blocks : List Block) (count : ℕ) (made : List ℕ) (h : 
           more : length (blocks ++ b ∷ []) ≡ length blocks + 1 → record_bytes * length (blocks ++ b ∷ []) ≡ record_bytes * (count + 1)
           more f = omega (arith, h.counted)
 
-      after_is : after ≡ records_of (blocks ++ b ∷ []) ++ (drop record_bytes part ++ drop (length made - from) (drop from made))
+      after_is : after ≡ records_of (blocks ++ b ∷ []) ++ (drop record_bytes part ++ drop (kept_bytes - from) (drop from made))
       after_is =
           let bytes = bytes_of record_bytes (block_number b) in
           let rest = drop record_bytes part in
-          let post = drop (length made - from) (drop from made) in
+          let post = drop (kept_bytes - from) (drop from made) in
           (λ i. h.stored i ++ (record_is i ++ post))
           ∙ ap (λ (s : List ℕ). records_of blocks ++ s) (append_assoc bytes rest post)
           ∙ sym (append_assoc (records_of blocks) bytes (rest ++ post))
@@ -162,18 +160,19 @@ module _ (b : Block) (blocks : List Block) (count : ℕ) (made : List ℕ) (h : 
       holds_more : Holds after (count + 1) (blocks ++ b ∷ [])
       holds_more =
           record {
-            sized = same_len_mid from (length made - from) made left (ap (λ (s : List ℕ). length s) w.bytes ∙ record_length b part) ∙ h.sized;
+            sized = same_len_mid from (kept_bytes - from) made left (ap (λ (s : List ℕ). length s) w.bytes ∙ record_length b part) ∙ h.sized;
             counted = length-append blocks (b ∷ []) ∙ ap (λ (n : ℕ). n + 1) h.counted;
             few = omega arith;
             stored =
                 ap (λ (s : List ℕ). take (record_bytes * (count + 1)) s) after_is
-                ∙ take_at (records_of (blocks ++ b ∷ [])) (drop record_bytes part ++ drop (length made - from) (drop from made)) (record_bytes * (count + 1)) front_length;
+                ∙ take_at (records_of (blocks ++ b ∷ [])) (drop record_bytes part ++ drop (kept_bytes - from) (drop from made)) (record_bytes * (count + 1)) front_length;
           }
 
-      pub keeps_written : Keeps (with_block b blocks) (kept.At (count + 1)) after
-      keeps_written =
-          keeps (given (blocks ++ b ∷ [])) (kept.At (count + 1)) after
-          (with_given b blocks e (sym write_refusal ∙ told_passed f w.number) (omega (arith, h.counted))) holds_more
+      pub keeps_written : (kept : Kept) → kept.bytes ≡ after → kept.count ≡ count + 1 → Keeps (with_block b blocks) (Ok tt) kept
+      keeps_written kept f g =
+          keeps (given (blocks ++ b ∷ [])) (Ok tt) kept
+          (with_given b blocks e (sym write_refusal ∙ sym w.number) (omega (arith, h.counted)))
+          (subst (λ (l : List ℕ). Holds l kept.count (blocks ++ b ∷ [])) (sym f) (subst (λ (n : ℕ). Holds after n (blocks ++ b ∷ [])) (sym g) holds_more))
 
 -- Behind a block that is taken a position is near.
 axis_near : (count d k move before after : ℕ) → before ≤ most_move * count → after ≤ move + before → move ≤ most_move * d → k ≡ count + d → after ≤ most_move * k
@@ -201,26 +200,26 @@ module _ (m next : Modal) (p count k : ℕ) (blocks more : List Block) where
           axis_near count d k (nat_abs (move_of a b)) (nat_abs (rounded_of a)) (nat_abs (rounded_of b)) h (moved_near a b) l (sym g ∙ is ∙ ap (λ (j : ℕ). j + d) f)
 
 -- A line's words with the block kept, and with the block refused.
-module _ (m : Modal) (w : Words) (p count : ℕ) (blocks : List Block) (made : List ℕ) where
+module _ (m : Modal) (w : Words) (p count : ℕ) (blocks : List Block) (kept : Kept) where
   abbrev block : Block
   block = block_between m (modal_after m w) p
 
   abbrev leads : Outcome ℕ (List Block) → Outcome ℕ Run
   leads o = elim o [ given more ↦ given (run_of (modal_after m w) more) | refused n ↦ refused n ]
 
-  pub takes_next : (k : ℕ) → Near count m → length blocks ≡ count → Keeps (with_block block blocks) (kept.At k) made
-      → Takes (with_words p (run_of m blocks) w) (taken.Next (modal_after m w) k) made
+  pub takes_next : Near count m → length blocks ≡ count → Keeps (with_block block blocks) (Ok tt) kept
+      → Takes (with_words p (run_of m blocks) w) (Ok (modal_after m w)) kept
   unfolding with_words
-  takes_next k n f h = by (with_block block blocks) refl h
+  takes_next n f h = by (with_block block blocks) refl h
     where
-      by : (o : Outcome ℕ (List Block)) → with_block block blocks ≡ o → Keeps o (kept.At k) made → Takes (leads o) (taken.Next (modal_after m w) k) made
-      by (given more) e h = (refl, (near_after m (modal_after m w) p count k blocks more e n f h.counted, h))
+      by : (o : Outcome ℕ (List Block)) → with_block block blocks ≡ o → Keeps o (Ok tt) kept → Takes (leads o) (Ok (modal_after m w)) kept
+      by (given more) e h = (refl, (near_after m (modal_after m w) p count kept.count blocks more e n f h.counted, h))
       by (refused n) e h = absurd h
 
-  pub takes_refused : (why : Refusal) → Keeps (with_block block blocks) (kept.Refused why) made → Takes (with_words p (run_of m blocks) w) (taken.Refused why) made
+  pub takes_refused : (why : Refusal) → Keeps (with_block block blocks) (Err why) kept → Takes (with_words p (run_of m blocks) w) (Err why) kept
   unfolding with_words
   takes_refused why h = by (with_block block blocks) h
     where
-      by : (o : Outcome ℕ (List Block)) → Keeps o (kept.Refused why) made → Takes (leads o) (taken.Refused why) made
+      by : (o : Outcome ℕ (List Block)) → Keeps o (Err why) kept → Takes (leads o) (Err why) kept
       by (given more) h = absurd h
       by (refused n) h = h

@@ -9,42 +9,31 @@ use borrow.Rule.Slice.PartMut.{mid_of, put_mid, put_same, same_len_mid}
 use lib.Dec.{ltb, lit<}
 use lib.ListN.{length, take, drop, length-append, length-drop, drop_of_length-le}
 use lib.Seq.{take_all, drop_at, drop-drop, length-take-le}
-use Rattle.display.specs.Display.{refusal_number, by_number, Fault, ◌at◌, ◌else◌}
+use Rattle.display.specs.Display.{given, refused, refusal_number, fault_of, placed_outcome_of, by_number, Fault, ◌at◌, ◌else◌}
 use Rattle.display.specs.declared.Refusal.{Refusal}
 use Rattle.display.proofs.Answers.{refusal_above, at_zero, above_zero, then_zero, not_picked, given_is, refused_is}
 use Rattle.tape.specs.Tape.{limits_bytes, limits_at, record_bytes}
-use Rattle.tape.specs.Answers.{ragged_below, limits_read_refusal, read_limits, limits_means, most_blocks, most_bytes}
-use Rattle.tape.specs.declared.LimitsRead.{LimitsRead}
-use Rattle.tape.specs.declared.LimitsRead.TheVariants as limits
+use Rattle.tape.specs.Answers.{ragged_below, limits_read_refusal, read_limits, most_blocks, most_bytes}
+use Rattle.machine.specs.declared.Limits.{Limits}
 use Rattle.tape.proofs.Answers.{enough}
-use Rattle.text.specs.Store.{put, Stored, Answered, place_behind}
+use Rattle.text.specs.Store.{put, Stored}
 use Rattle.text.specs.Text.{refused_at}
-use Rattle.text.specs.declared.Put.{Put}
-use Rattle.text.proofs.Store.{stored_with_room}
-use Rattle.rs274.specs.Answers.{text_blocks, lines_fault, records_of, text_fault, text_answer, text_written, text_means, WroteText, tape_fault, tape_or_line}
-use Rattle.rs274.specs.declared.TextAnswer.{TextAnswer}
-use Rattle.rs274.specs.declared.TextAnswer.TheVariants as answer
+use Rattle.std.specs.Prelude.{Result, Ok, Err}
+use Rattle.rs274.specs.Answers.{text_blocks, lines_fault, records_of, text_fault, text_answer, text_written, WroteText, tape_fault, tape_or_line}
+use Rattle.display.specs.declared.RefusedAt.{RefusedAt}
 use Rattle.rs274.proofs.Accepted.{text_few}
 use Rattle.rs274.proofs.Keeping.{length_records}
 
--- The limits' bytes are stored.
-pub limits_stored : (head out : List ℕ) {after : List ℕ} {put-answer : Put} {end : ℕ} → limits_bytes ≤ length head → length out ≡ most_bytes
-    → Answered out 0 (take limits_bytes head) put-answer after → end ≡ place_behind 0 put-answer → Stored out 0 (take limits_bytes head) limits_bytes after × (end ≡ limits_bytes)
-limits_stored head out h e w is =
-    let size : length (take limits_bytes head) ≡ limits_bytes = length-take-le limits_bytes head h in
-    let r = stored_with_room (omega (arith, size, e)) w is in
-    (record { bytes = r.bytes; next = omega (arith, size) }, omega (arith, size, r.next))
-
 -- Limits that are read, and limits that are refused.
-pub limits_right : (head : List ℕ) (r : LimitsRead) {l : _} → r ≡ limits.Read l → limits_means r ≡ read_limits head → limits_read_refusal head ≡ 0
+pub limits_right : (head : List ℕ) {l : Limits} → given l ≡ read_limits head → limits_read_refusal head ≡ 0
 unfolding read_limits
-limits_right head r {l} e h = (given_is (limits_at head) (limits_read_refusal head) (limits_read_refusal head) (sym (ap limits_means e) ∙ h)).0
+limits_right head {l} h = (given_is (limits_at head) (limits_read_refusal head) (limits_read_refusal head) h).0
 
-pub limits_wrong : (head s : List ℕ) (r : LimitsRead) (why : Refusal) → r ≡ limits.Refused why → limits_means r ≡ read_limits head
+pub limits_wrong : (head s : List ℕ) (why : Refusal) → refused (refusal_number why) ≡ read_limits head
     → refused_at (refusal_number why) 0 ≡ tape_or_line head s
 unfolding read_limits tape_or_line tape_fault
-limits_wrong head s r why e h =
-    let is = refused_is (limits_at head) (limits_read_refusal head) (limits_read_refusal head) (sym (ap limits_means e) ∙ h) in
+limits_wrong head s why h =
+    let is = refused_is (limits_at head) (limits_read_refusal head) (limits_read_refusal head) h in
     let fault : (limits_read_refusal head at 0 else lines_fault s) ≡ refusal_number why at 0 =
     above_zero (lines_fault s) (limits_read_refusal head at 0) is.0 ∙ ap (λ (n : ℕ). n at 0) (sym is.1) in
     sym ((λ i. by_number (fault i).number (take limits_bytes head ++ records_of (text_blocks s)) (refused_at (fault i).number (fault i).place))
@@ -82,17 +71,17 @@ module _ (head s out : List ℕ) (right : limits_read_refusal head ≡ 0) (size 
   unfolding tape_fault
   tape_fault_lem = at_zero (lines_fault s) (limits_read_refusal head at 0) right
 
-  module _ (r : TextAnswer) (left : List ℕ) (w : WroteText s part r left) where
+  module _ (r : Result ℕ RefusedAt) (left : List ℕ) (w : WroteText s part r left) where
     abbrev after : List ℕ
     after = put_mid limits_bytes (length out - limits_bytes) out left
 
     -- The text is refused: nothing is written, and the line is the refusal's.
-    module _ (why : Refusal) (p : ℕ) (is : r ≡ answer.Refused why p) where
-      why_is : (0 < (text_fault s part).number) × ((refusal_number why at p) ≡ text_fault s part)
+    module _ (q : RefusedAt) (is : r ≡ Err q) where
+      why_is : (0 < (text_fault s part).number) × (fault_of q ≡ text_fault s part)
       unfolding text_answer
-      why_is = refused_is (length (text_blocks s)) (text_fault s part) (text_fault s part).number (sym (ap text_means is) ∙ w.answer)
+      why_is = refused_is (length (text_blocks s)) (text_fault s part) (text_fault s part).number (sym (ap placed_outcome_of is) ∙ w.answer)
 
-      lines_fault_lem : lines_fault s ≡ refusal_number why at p
+      lines_fault_lem : lines_fault s ≡ fault_of q
       unfolding text_fault
       lines_fault_lem =
           let above : 0 < (lines_fault s).number = subst (λ (n : ℕ). 0 < n) fault_number why_is.0 in
@@ -105,25 +94,18 @@ module _ (head s out : List ℕ) (right : limits_read_refusal head ≡ 0) (size 
           (w.bytes ∙ above_zero (records_of (text_blocks s) ++ drop (record_bytes * length (text_blocks s)) part) part why_is.0)
           ∙ put_same limits_bytes (length out - limits_bytes) out
 
-      line_is : refused_at (refusal_number why) p ≡ tape_or_line head s
+      pub line_is : refused_at (refusal_number q.why) q.place ≡ tape_or_line head s
       unfolding tape_or_line
       line_is =
           let fault = tape_fault_lem ∙ lines_fault_lem in
           sym ((λ i. by_number (fault i).number (take limits_bytes head ++ records_of (text_blocks s)) (refused_at (fault i).number (fault i).place))
-          ∙ above_zero (take limits_bytes head ++ records_of (text_blocks s)) (refused_at (refusal_number why) p) (refusal_above why))
-
-      pub refusal_stored : {end : ℕ} {last : List ℕ} → Stored after 0 (refused_at (refusal_number why) p) end last → Stored out 0 (tape_or_line head s) end last
-      refusal_stored {end} {last} h =
-          record {
-            bytes = h.bytes ∙ (λ i. put (nothing_written i) 0 (line_is i));
-            next = h.next ∙ ap (λ (t : List ℕ). 0 + length t) line_is;
-          }
+          ∙ above_zero (take limits_bytes head ++ records_of (text_blocks s)) (refused_at (refusal_number q.why) q.place) (refusal_above q.why))
 
     -- The text is right: its records are written, and the limits before them.
-    module _ (n : ℕ) (is : r ≡ answer.Written n) where
+    module _ (n : ℕ) (is : r ≡ Ok n) where
       n_is : ((text_fault s part).number ≡ 0) × (n ≡ length (text_blocks s))
       unfolding text_answer
-      n_is = given_is (length (text_blocks s)) (text_fault s part) (text_fault s part).number (sym (ap text_means is) ∙ w.answer)
+      n_is = given_is (length (text_blocks s)) (text_fault s part) (text_fault s part).number (sym (ap placed_outcome_of is) ∙ w.answer)
 
       pub n_few : n ≤ most_blocks
       n_few = omega (arith, n_is.1, text_few s)

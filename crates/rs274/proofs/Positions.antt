@@ -1,20 +1,27 @@
 -- How large positions, lengths and moves are, and that the code's numbers are theirs. From arith's laws of signed numbers.
 use mathlib.Core.Path.{◌≡◌, refl, sym, ap, subst, ◌∙◌}
-use mathlib.Core.Bool.{Bool, true, false, cond, ◌&&◌}
+use mathlib.Core.Bool.{Bool, true, false, ◌&&◌}
 use Prim.Native.Nat.{ℕ, ◌+◌, ◌*◌, ◌/◌, ◌^◌, ◌≤◌, ◌<◌, max}
 use native.Mathlib.Omega.{arith}
 use borrow.Author.Tests.{ltb-true, eqb-true, eqb-false, eq-eqb, ne_eqb}
 use lib.Dec.{eqb}
-use lib.IntN.{ℤ, pos, negsuc, nat_abs, ◌+ℤ◌, ◌-ℤ◌, ◌*ℤ◌, -ℤ-+ℤ_cancel}
+use lib.IntN.{ℤ, pos, negsuc, nat_abs, ◌+ℤ◌, ◌-ℤ◌, ◌*ℤ◌, -ℤ-+ℤ_cancel, +ℤ_idl}
+use Rattle.std.specs.Prelude.{Option, Some, None}
+use Rattle.std.specs.Option.{is_some, unwrap_or}
 use lib.Signed.{lt_z}
 use Rattle.arith.specs.Signed.{signed_by}
-use Rattle.arith.proofs.SignedLaws.{read_back, small_back, nat_abs_neg, nat_abs_sum, nat_abs_minus, nat_abs_product}
+use mir.Syntax.{w64}
+use mir.Val.{SFits}
+use Rattle.arith.proofs.SignedLaws.{fits_small, read_back, small_back, nat_abs_neg, nat_abs_sum, nat_abs_minus, nat_abs_product}
 use Rattle.machine.specs.Labels.{plain_block}
 use Rattle.machine.specs.Ranges.{most_move}
 use Rattle.machine.specs.declared.Block.{Block}
 use Rattle.tape.specs.Answers.{most_blocks}
 use Rattle.words.specs.Number.{parts}
-use Rattle.words.specs.Words.{Words, motion_slot, x_slot, y_slot, z_slot}
+use Rattle.words.proofs.SlotLaws as slots
+use mathlib.Core.List.{List}
+use lib.ListN.{get_or}
+use Rattle.words.specs.Words.{Words, words_in, motion_slot, x_slot, y_slot, z_slot}
 use Rattle.words.specs.Number.{most_number}
 use Rattle.rs274.specs.Bounds.{WordsWithin, Within}
 use Rattle.rs274.specs.Kept.{Near}
@@ -28,9 +35,6 @@ back_as r z h e = ap read_back e ∙ small_back z h
 -- A word's number is read back as it is.
 pub word_back : (v : ℤ) → nat_abs v ≤ most_number → read_back v ≡ v
 word_back v h = small_back v (omega arith)
-
-pub word_fits : (v : ℤ) → nat_abs v ≤ most_number → nat_abs (read_back v) ≤ most_number
-word_fits v h = rw (word_back v h) h
 
 -- The size of a number with a sign, and of a rounded position.
 signed_size : (t : Bool) (n : ℕ) → nat_abs (signed_by t n) ≡ n
@@ -59,13 +63,17 @@ pub rounded_back : (r z : ℤ) → nat_abs z < 2 ^ 41 → r ≡ rounded_of z →
 rounded_back r z h e = back_as r (rounded_of z) (omega (arith, rounded_small z h)) e
 
 module _ (p q before after : ℤ) (h : nat_abs before < 2 ^ 41) (g : nat_abs after < 2 ^ 41) (e : p ≡ rounded_of after) (f : q ≡ rounded_of before) where
-  pub move_fits : nat_abs (read_back p) + nat_abs (read_back q) < 2 ^ 63
-  move_fits = rw (rounded_back p after g e, rounded_back q before h f) (omega (arith, rounded_small after g, rounded_small before h))
+  move_is : read_back p -ℤ read_back q ≡ move_of before after
+  move_is = λ i. rounded_back p after g e i -ℤ rounded_back q before h f i
 
-  pub move_back : (r : ℤ) → r ≡ read_back p -ℤ read_back q → read_back r ≡ move_of before after
-  move_back r is =
-      back_as r (move_of before after) (omega (arith, nat_abs_minus (rounded_of after) (rounded_of before), rounded_small after g, rounded_small before h))
-      (is ∙ (λ i. rounded_back p after g e i -ℤ rounded_back q before h f i))
+  move_small : nat_abs (move_of before after) < 2 ^ 63
+  move_small = omega (arith, nat_abs_minus (rounded_of after) (rounded_of before), rounded_small after g, rounded_small before h)
+
+  pub move_fits : SFits w64 (read_back p -ℤ read_back q)
+  move_fits = subst (SFits w64) (sym move_is) (fits_small (move_of before after) move_small)
+
+  pub move_back : read_back (read_back p -ℤ read_back q) ≡ move_of before after
+  move_back = back_as (read_back p -ℤ read_back q) (move_of before after) move_small move_is
 
 -- The move from one position as the code passes it to another.
 axis_back : (r before after : ℤ) → nat_abs before < 2 ^ 41 → nat_abs after < 2 ^ 41 → r ≡ move_of (read_back before) (read_back after) → read_back r ≡ move_of before after
@@ -93,36 +101,31 @@ unfolding length_in
 length_small inches v h = rw (nat_abs_product v (pos (unit_of inches * 100 / 10_000))) (length_product inches v h)
 
 -- What the code has for a length.
-module _ (inches : Bool) (v r : ℤ) (h : nat_abs v ≤ most_number) (e : r ≡ pos (unit_of inches * 100 / 10_000)) where
-  scale_back : read_back r ≡ pos (unit_of inches * 100 / 10_000)
-  scale_back = back_as r (pos (unit_of inches * 100 / 10_000)) (small (unit_of inches) (unit_small inches)) e
-    where
-      small : (n : ℕ) → n ≤ 25_400 → n * 100 / 10_000 < 2 ^ 63
-      small n h = omega arith
-
-  pub length_fits : nat_abs (read_back v) * nat_abs (read_back r) < 2 ^ 63
-  length_fits = rw (small_back v (omega arith), scale_back) (omega (arith, length_product inches v h))
-
-  pub length_back : (t : ℤ) → t ≡ read_back v *ℤ read_back r → read_back t ≡ length_in inches v
-  unfolding length_in
-  length_back t is =
-      back_as t (v *ℤ pos (unit_of inches * 100 / 10_000))
-      (rw (nat_abs_product v (pos (unit_of inches * 100 / 10_000))) (omega (arith, length_product inches v h)))
-      (is ∙ (λ i. small_back v (omega arith) i *ℤ scale_back i))
+pub length_back : (inches : Bool) (v scale : ℤ) → nat_abs v ≤ most_number → scale ≡ pos (unit_of inches * 100 / 10_000)
+    → read_back (read_back v *ℤ scale) ≡ length_in inches v
+unfolding length_in
+length_back inches v scale h e =
+    back_as (read_back v *ℤ scale) (v *ℤ pos (unit_of inches * 100 / 10_000))
+    (rw (nat_abs_product v (pos (unit_of inches * 100 / 10_000))) (omega (arith, length_product inches v h)))
+    (λ i. word_back v h i *ℤ e i)
 
 -- A position behind a line, by its cases, and how large it is.
-module _ (inches incremental : Bool) (before : ℤ) (stands : Bool) (v : ℤ) where
-  pub position_stays : stands ≡ false → before ≡ position_of inches incremental before stands v
+module _ (inches incremental : Bool) (before : ℤ) (word : Option ℤ) where
+  abbrev after : ℤ
+  after = position_of inches incremental before (is_some word) (unwrap_or word (pos 0))
+
+  pub position_stays : word ≡ None → before ≡ after
   unfolding position_of
   position_stays e = rw e
 
-  pub position_on : stands ≡ true → incremental ≡ true → before +ℤ length_in inches v ≡ position_of inches incremental before stands v
-  unfolding position_of
-  position_on e f = rw (e, f)
+  module _ {v : ℤ} (e : word ≡ Some v) where
+    pub position_on : incremental ≡ true → before +ℤ length_in inches v ≡ after
+    unfolding position_of
+    position_on f = rw (e, f)
 
-  pub position_to : stands ≡ true → incremental ≡ false → pos 0 +ℤ length_in inches v ≡ position_of inches incremental before stands v
-  unfolding position_of
-  position_to e f = rw (e, f)
+    pub position_to : incremental ≡ false → length_in inches v ≡ after
+    unfolding position_of
+    position_to f = rw (e, f) (sym (+ℤ_idl (length_in inches v)))
 
 pub position_small : (inches incremental : Bool) (before : ℤ) (stands : Bool) (v : ℤ) → nat_abs before < 2 ^ 40 → nat_abs v ≤ most_number
     → nat_abs (position_of inches incremental before stands v) < 2 ^ 41
@@ -133,32 +136,32 @@ position_small inches false before true v h g = omega (arith, nat_abs_sum (pos 0
 
 -- What the code has for it, and for the position before it.
 position_back : (inches incremental : Bool) (before : ℤ) (stands : Bool) (v r : ℤ) → nat_abs before < 2 ^ 40 → nat_abs v ≤ most_number
-    → r ≡ position_of inches incremental (read_back before) stands (read_back v) → read_back r ≡ position_of inches incremental before stands v
+    → r ≡ position_of inches incremental (read_back before) stands v → read_back r ≡ position_of inches incremental before stands v
 position_back inches incremental before stands v r h g e =
     back_as r (position_of inches incremental before stands v) (omega (arith, position_small inches incremental before stands v h g))
-    (e ∙ (λ i. position_of inches incremental (small_back before (omega arith) i) stands (word_back v g i)))
+    (e ∙ (λ i. position_of inches incremental (small_back before (omega arith) i) stands v))
 
 pub place_fits : (z : ℤ) → nat_abs z < 2 ^ 40 → nat_abs (read_back z) < 2 ^ 40
 place_fits z h = rw (small_back z (omega arith)) h
 
 -- What the code has for the sum of a position and a length.
 module _ (inches : Bool) (from v r : ℤ) (h : nat_abs from < 2 ^ 40) (g : nat_abs v ≤ most_number) (e : r ≡ length_in inches v) where
-  part_back : read_back r ≡ length_in inches v
+  pub part_back : read_back r ≡ length_in inches v
   part_back = back_as r (length_in inches v) (omega (arith, length_small inches v g)) e
 
-  pub sum_fits : nat_abs (read_back from) + nat_abs (read_back r) < 2 ^ 63
-  sum_fits = rw (small_back from (omega arith), part_back) (omega (arith, length_small inches v g))
+  sum_is : read_back from +ℤ read_back r ≡ from +ℤ length_in inches v
+  sum_is = λ i. small_back from (omega arith) i +ℤ part_back i
 
-  pub sum_back : (t : ℤ) → t ≡ read_back from +ℤ read_back r → read_back t ≡ from +ℤ length_in inches v
-  sum_back t is =
-      back_as t (from +ℤ length_in inches v) (omega (arith, nat_abs_sum from (length_in inches v), length_small inches v g))
-      (is ∙ (λ i. small_back from (omega arith) i +ℤ part_back i))
+  sum_small : nat_abs (from +ℤ length_in inches v) < 2 ^ 63
+  sum_small = omega (arith, nat_abs_sum from (length_in inches v), length_small inches v g)
 
--- A feed by the sign of its number, and the product that it is worked out of.
-pub feed_product : (inches : Bool) (n : ℕ) → n ≤ most_number → n * unit_of inches < 2 ^ 50
-feed_product true n h = omega arith
-feed_product false n h = omega arith
+  pub sum_fits : SFits w64 (read_back from +ℤ read_back r)
+  sum_fits = subst (SFits w64) (sym sum_is) (fits_small (from +ℤ length_in inches v) sum_small)
 
+  pub sum_back : read_back (read_back from +ℤ read_back r) ≡ from +ℤ length_in inches v
+  sum_back = back_as (read_back from +ℤ read_back r) (from +ℤ length_in inches v) sum_small sum_is
+
+-- A feed by the sign of its number.
 pub feed_negative : (inches : Bool) (v : ℤ) → lt_z v (pos 0) ≡ true → 0 ≡ feed_of inches v
 unfolding feed_of
 feed_negative inches (pos n) e = absurd (omega (arith, ltb-true n 0 e))
@@ -169,14 +172,6 @@ pub feed_positive : (inches : Bool) (v : ℤ) → lt_z v (pos 0) ≡ false → n
 unfolding feed_of
 feed_positive inches (pos n) e = refl
 feed_positive inches (negsuc n) e = let z : ◌≡◌ {A = ℕ} 0 1 = cc in absurd (omega arith)
-
--- A slot's word decides, or what was before.
-module _ {A : Type 0} (t : Bool) (x before : A) where
-  pub chosen_word : t ≡ true → x ≡ cond t x before
-  chosen_word e = rw e
-
-  pub chosen_before : t ≡ false → before ≡ cond t x before
-  chosen_before e = rw e
 
 -- Near what so many blocks moved, positions are within 2^40, and behind a line within 2^41.
 near_place : (count : ℕ) (z : ℤ) → count ≤ most_blocks → nat_abs (rounded_of z) ≤ most_move * count → nat_abs z < 2 ^ 40
@@ -202,18 +197,29 @@ within_after m w h n =
       z = position_small (inches_after m w) (incremental_after m w) m.z (stands_in w z_slot) (value_in w z_slot) n.z (h z_slot);
     }
 
+-- What the code asks of a slot's word is what its slot says, and its number is small.
+module _ (l : List (Option ℤ)) (k : ℕ) where
+  abbrev word : Option ℤ
+  word = get_or l k None
+
+  pub of_slot : {A : Type 0} (f : Bool → ℤ → A) → f (is_some word) (unwrap_or word (pos 0)) ≡ f (stands_in (words_in l) k) (value_in (words_in l) k)
+  of_slot f = λ i. f (sym (slots.stands_in l k) i) (sym (slots.value_in l k) i)
+
+  pub slot_small : WordsWithin (words_in l) → nat_abs (unwrap_or word (pos 0)) ≤ most_number
+  slot_small h = subst (λ (z : ℤ). nat_abs z ≤ most_number) (slots.value_in l k) (h k)
+
 -- What the code has for each field is what is in force behind a line,
 module _ (m : Modal) (w : Words) (small : WordsWithin w) (near : Within (2 ^ 40) m) (inches incremental : Bool) (unit : inches ≡ inches_after m w) (way : incremental ≡ incremental_after m w) where
-  axis_after : (k : ℕ) (before r : ℤ) → nat_abs before < 2 ^ 40 → r ≡ position_of inches incremental (read_back before) (stands_in w k) (read_back (value_in w k))
+  axis_after : (k : ℕ) (before r : ℤ) → nat_abs before < 2 ^ 40 → r ≡ position_of inches incremental (read_back before) (stands_in w k) (value_in w k)
       → read_back r ≡ position_after m w k before
   axis_after k before r h e =
       position_back inches incremental before (stands_in w k) (value_in w k) r h (small k) e
       ∙ (λ i. position_of (unit i) (way i) before (stands_in w k) (value_in w k))
 
   pub modal_is : (rapid : Bool) (x y z : ℤ) (feed : ℕ) → rapid ≡ chosen_by w motion_slot (0 * parts) m.rapid
-      → x ≡ position_of inches incremental (read_back m.x) (stands_in w x_slot) (read_back (value_in w x_slot))
-      → y ≡ position_of inches incremental (read_back m.y) (stands_in w y_slot) (read_back (value_in w y_slot))
-      → z ≡ position_of inches incremental (read_back m.z) (stands_in w z_slot) (read_back (value_in w z_slot)) → feed ≡ feed_by w inches m.feed
+      → x ≡ position_of inches incremental (read_back m.x) (stands_in w x_slot) (value_in w x_slot)
+      → y ≡ position_of inches incremental (read_back m.y) (stands_in w y_slot) (value_in w y_slot)
+      → z ≡ position_of inches incremental (read_back m.z) (stands_in w z_slot) (value_in w z_slot) → feed ≡ feed_by w inches m.feed
       → record { inches = inches; incremental = incremental; rapid = rapid; x = read_back x; y = read_back y; z = read_back z; feed = feed } ≡ modal_after m w
   unfolding modal_after
   modal_is rapid x y z feed motion ex ey ez fed =

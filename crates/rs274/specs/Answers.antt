@@ -1,14 +1,14 @@
 -- Document 02, Q-1: what a text is answered, the records that are written of it, and the tape that limits and a text make.
-use Rattle.std.specs.Prelude.{◌≡◌, List, ◌∷◌, ◌++◌, [], ℕ, ◌*◌, length, take, drop}
-use Rattle.display.specs.Display.{refusal_number, by_number, Outcome, given, refused, Fault, ◌at◌, ◌else◌}
+use Rattle.std.specs.Prelude.{◌≡◌, List, ◌∷◌, ◌++◌, [], ℕ, ◌*◌, length, take, drop, Result, Ok, Err}
+use Rattle.display.specs.Display.{refusal_number, by_number, placed_outcome_of, Outcome, given, refused, Fault, ◌at◌, ◌else◌}
 use Rattle.fields.specs.Bytes.{bytes_of}
 use Rattle.machine.specs.declared.Block.{Block}
 use Rattle.tape.specs.Tape.{limits_bytes, record_bytes, block_number}
 use Rattle.tape.specs.Answers.{ragged_below, limits_read_refusal}
+use Rattle.text.specs.Store.{Stored}
 use Rattle.text.specs.Text.{refused_at}
 use Rattle.rs274.specs.Text.{text_run}
-use Rattle.rs274.specs.declared.TextAnswer.{TextAnswer}
-use Rattle.rs274.specs.declared.TextAnswer.TheVariants as text
+use Rattle.display.specs.declared.RefusedAt.{RefusedAt}
 
 -- the blocks of a text, none where it has a fault
 abbrev pub blocks_in : Outcome Fault (List Block) → List Block
@@ -44,14 +44,9 @@ unfoldable pub text_written : (text lent : List ℕ) → List ℕ
 text_written text lent =
     by_number (text_fault text lent).number (records_of (text_blocks text) ++ drop (record_bytes * length (text_blocks text)) lent) lent
 
--- the answer of each case
-abbrev pub text_means : TextAnswer → Outcome Fault ℕ
-text_means (text.Written n) = given n
-text_means (text.Refused why p) = refused (refusal_number why at p)
-
 -- a writer answers r of a text and leaves the lent list so
-pub record WroteText (text lent : List ℕ) (r : TextAnswer) (left : List ℕ) : Type 0 where
-  pub answer : text_means r ≡ text_answer text lent
+pub record WroteText (text lent : List ℕ) (r : Result ℕ RefusedAt) (left : List ℕ) : Type 0 where
+  pub answer : placed_outcome_of r ≡ text_answer text lent
   pub bytes : left ≡ text_written text lent
 
 -- what limits, as bytes of which the first 24 count, and a text make: the tape, or the line of the refusal; that of the limits comes first
@@ -62,3 +57,8 @@ unfoldable pub tape_or_line : (head text : List ℕ) → List ℕ
 tape_or_line head text =
     by_number (tape_fault head text).number (take limits_bytes head ++ records_of (text_blocks text))
     (refused_at (tape_fault head text).number (tape_fault head text).place)
+
+-- limits and a text make a tape of so many bytes at the beginning of the lent ones; or they are refused, and the lent bytes stay
+abbrev pub Makes : (head text lent : List ℕ) → Result ℕ RefusedAt → (left : List ℕ) → Type 0
+Makes head text lent (Ok end) left = Stored lent 0 (tape_or_line head text) end left
+Makes head text lent (Err r) left = (left ≡ lent) × (refused_at (refusal_number r.why) r.place ≡ tape_or_line head text)

@@ -1,18 +1,18 @@
 // What a line's words do, and the block between two positions.
-ghost use Rattle.std.specs.Prelude.{◌≡◌, ◌^◌, ◌<◌, ◌≤◌, nat_abs};
-ghost use Rattle.words.specs.Steps.{Sized};
-ghost use Rattle.words.specs.Words.{slots, words_in};
+ghost use Rattle.std.specs.Prelude.{◌≡◌, ◌^◌, ◌<◌, ◌≤◌, cond, is_some, nat_abs, pos};
+ghost use Rattle.std.specs.Option.{unwrap_or};
+ghost use Rattle.words.specs.Words.{is_value, words_in};
 ghost use Rattle.words.specs.Number.{most_number};
 ghost use Rattle.rs274.specs.Bounds.{Within, WordsWithin};
-ghost use Rattle.rs274.specs.Modal.{begin, block_between, chosen_by, feed_by, feed_in_force, feed_of, length_in, modal_after, move_of, position_of, rounded_of, unit_of};
+ghost use Rattle.rs274.specs.Modal.{begin, block_between, feed_in_force, feed_of, length_in, modal_after, move_of, position_of, rounded_of, unit_of};
 
 use crate::Modal;
-use arith::signed::{magnitude, minus, plus, signed_by, times};
+use arith::signed::signed_by;
 use machine::Block;
 use machine::blocks::plain_block;
 use words::numbers::PARTS;
 use words::scan::is_value;
-use words::{FEED, INCHES, INCREMENTAL, MOTION, RAPID, UNIT, WAY, X, Y, Z};
+use words::{FEED, INCHES, INCREMENTAL, MOTION, RAPID, SLOTS, UNIT, WAY, X, Y, Z};
 
 // µm in an inch, and in a millimetre.
 const INCH: u64 = 25_400;
@@ -25,19 +25,11 @@ const MINUTE: u64 = 60;
 // The feed of G0, µm/s.
 const RAPID_FEED: u64 = 1_000_000;
 
-// What is in force before the first line: G21, G90, G1, at zero with no feed.
+// What is in force before the first line: G21, G90, G1, at zero with no feed: `default` by the name of its definition.
 pub(crate) fn begin() -> Modal
     ensures { result ≡ begin }
 {
-    Modal {
-        inches: false,
-        incremental: false,
-        rapid: false,
-        x: 0,
-        y: 0,
-        z: 0,
-        feed: 0,
-    }
+    Modal::default()
 }
 
 // µm in the unit.
@@ -47,27 +39,28 @@ fn unit_of(inches: bool) -> u64
     if inches { INCH } else { MILLIMETRE }
 }
 
-// A number of a position, ten-thousandths of its unit, in hundredths of a µm.
+// A number of a position, ten-thousandths of its unit, in hundredths of a µm. That a number is small is a clause and no type, since
+// `read_words` is lent any numbers.
 fn length_in(inches: bool, v: i64) -> i64
     requires { nat_abs v ≤ most_number }
     ensures { result ≡ length_in inches v }
 {
-    times(v, signed_by(false, unit_of(inches) * HUNDREDTHS / PARTS))
+    v * (unit_of(inches) * HUNDREDTHS / PARTS) as i64
 }
 
-// A position on an axis behind a line, hundredths of a µm: by G91 from where it was, by G90 from zero.
-fn position_of(inches: bool, incremental: bool, before: i64, stands: bool, v: i64) -> i64
-    requires { (nat_abs before < 2 ^ 40) × (nat_abs v ≤ most_number) }
-    ensures { result ≡ position_of inches incremental before stands v }
+// A position on an axis behind a line, hundredths of a µm, by the number of its word, where one stands: by G91 from where
+// it was, by G90 from zero.
+fn position_of(inches: bool, incremental: bool, before: i64, word: Option<i64>) -> i64
+    requires { (nat_abs before < 2 ^ 40) × (nat_abs (unwrap_or word (pos 0)) ≤ most_number) }
+    ensures { result ≡ position_of inches incremental before (is_some word) (unwrap_or word (pos 0)) }
 {
-    if !stands {
-        return before;
+    match word {
+        None => before,
+        Some(v) => {
+            let length = length_in(inches, v);
+            if incremental { before + length } else { length }
+        }
     }
-    let length = length_in(inches, v);
-    if incremental {
-        return plus(before, length);
-    }
-    plus(0, length)
 }
 
 // A number of a feed, ten-thousandths of its unit per minute, in µm/s, rounded down; 0 for one below 0.
@@ -78,49 +71,45 @@ fn feed_of(inches: bool, v: i64) -> u64
     if v < 0 {
         return 0;
     }
-    magnitude(v) * unit_of(inches) / (MINUTE * PARTS)
+    v.unsigned_abs() * unit_of(inches) / (MINUTE * PARTS)
 }
 
 // Whether the G word of a slot has this number, ten-thousandths; where none stands there, what was before.
-fn chosen(stands: &[bool], values: &[i64], slot: usize, v: u64, before: bool) -> bool
-    requires { Sized stands.now values.now × (slot < slots) }
-    ensures { result ≡ chosen_by (words_in stands.now values.now) slot v before }
+fn chosen(word: Option<i64>, v: u64, before: bool) -> bool
+    ensures { result ≡ cond (is_some word) (is_value v (unwrap_or word (pos 0))) before }
 {
-    if stands[slot] {
-        return is_value(values[slot], v);
+    match word {
+        Some(number) => is_value(number, v),
+        None => before,
     }
-    before
 }
 
-// The feed behind a line, µm/s.
-fn feed_after(stands: &[bool], values: &[i64], inches: bool, before: u64) -> u64
-    requires { Sized stands.now values.now × WordsWithin (words_in stands.now values.now) }
-    ensures { result ≡ feed_by (words_in stands.now values.now) inches before }
+// The feed behind a line, µm/s, by the number of its F, where one stands.
+fn feed_after(word: Option<i64>, inches: bool, before: u64) -> u64
+    requires { nat_abs (unwrap_or word (pos 0)) ≤ most_number }
+    ensures { result ≡ cond (is_some word) (feed_of inches (unwrap_or word (pos 0))) before }
 {
-    if stands[FEED] {
-        return feed_of(inches, values[FEED]);
+    match word {
+        Some(v) => feed_of(inches, v),
+        None => before,
     }
-    before
 }
 
 // What is in force behind a line: its G words act before its other words.
-pub(crate) fn modal_after(m: Modal, stands: &[bool], values: &[i64]) -> Modal
-    requires { Sized stands.now values.now × (WordsWithin (words_in stands.now values.now) × Within (2 ^ 40) m) }
-    ensures { result ≡ modal_after m (words_in stands.now values.now) }
+pub(crate) fn modal_after(m: Modal, words: &[Option<i64>; SLOTS]) -> Modal
+    requires { WordsWithin (words_in words.now) × Within (2 ^ 40) m }
+    ensures { result ≡ modal_after m (words_in words.now) }
 {
-    let inches = chosen(stands, values, UNIT, INCHES, m.inches);
-    let incremental = chosen(stands, values, WAY, INCREMENTAL, m.incremental);
-    let x = position_of(inches, incremental, m.x, stands[X], values[X]);
-    let y = position_of(inches, incremental, m.y, stands[Y], values[Y]);
-    let z = position_of(inches, incremental, m.z, stands[Z], values[Z]);
+    let inches = chosen(words[UNIT], INCHES, m.inches);
+    let incremental = chosen(words[WAY], INCREMENTAL, m.incremental);
     Modal {
-        inches: inches,
-        incremental: incremental,
-        rapid: chosen(stands, values, MOTION, RAPID, m.rapid),
-        x: x,
-        y: y,
-        z: z,
-        feed: feed_after(stands, values, inches, m.feed),
+        inches,
+        incremental,
+        rapid: chosen(words[MOTION], RAPID, m.rapid),
+        x: position_of(inches, incremental, m.x, words[X]),
+        y: position_of(inches, incremental, m.y, words[Y]),
+        z: position_of(inches, incremental, m.z, words[Z]),
+        feed: feed_after(words[FEED], inches, m.feed),
     }
 }
 
@@ -131,7 +120,7 @@ fn rounded(position: i64) -> i64
 {
     signed_by(
         position < 0,
-        (magnitude(position) + HUNDREDTHS / 2) / HUNDREDTHS,
+        (position.unsigned_abs() + HUNDREDTHS / 2) / HUNDREDTHS,
     )
 }
 
@@ -140,7 +129,7 @@ fn move_of(before: i64, after: i64) -> i64
     requires { (nat_abs before < 2 ^ 41) × (nat_abs after < 2 ^ 41) }
     ensures { result ≡ move_of before after }
 {
-    minus(rounded(after), rounded(before))
+    rounded(after) - rounded(before)
 }
 
 // The feed of a block, µm/s: that of G0, or the one that F has set.

@@ -2,24 +2,27 @@
 ghost use Rattle.std.specs.Prelude.{◌≡◌, ◌+◌, ◌*◌, ◌≤◌, length, take};
 ghost use Rattle.display.specs.Display.{refusal_number};
 ghost use Rattle.tape.specs.Tape.{limits_bytes, record_bytes};
-ghost use Rattle.tape.specs.Answers.{limits_read_refusal, most_blocks, most_bytes};
+ghost use Rattle.tape.specs.Answers.{most_blocks, most_bytes};
 ghost use Rattle.text.specs.Store.{Stored};
 ghost use Rattle.text.specs.Text.{refused_at};
-ghost use Rattle.rs274.specs.Answers.{tape_or_line};
+ghost use Rattle.rs274.specs.Answers.{Makes, tape_or_line};
 
-use crate::TextAnswer;
 use crate::whole::text_records;
-use display::{Refusal, refusal_number};
+use display::{RefusedAt, refusal_number};
 use tape::limits::read_limits;
-use tape::{LIMITS_BYTES, LimitsRead, MOST_BYTES, RECORD_BYTES};
+use tape::{LIMITS_BYTES, MOST_BYTES, RECORD_BYTES};
 use text::{behind, put_bytes, put_refused_at};
 
-// Stores the line of a refusal.
-fn put_refusal(why: Refusal, place: usize, out: &mut [u8]) -> usize
+// Stores the line of a refusal. Here and below a slice with its length in a clause, and no array: of the part behind an array's limits
+// the length is a number, and the proof that `text_records` is lent that part did not close.
+fn put_refusal(r: RefusedAt, out: &mut [u8]) -> usize
     requires { length out.old ≡ most_bytes }
-    ensures { Stored out.old 0 (refused_at (refusal_number why) place) result out.new }
+    ensures { Stored out.old 0 (refused_at (refusal_number r.why) r.place) result out.new }
 {
-    behind(put_refused_at(out, 0, refusal_number(why), place as u64), 0)
+    behind(
+        put_refused_at(out, 0, refusal_number(r.why), r.place as u64),
+        0,
+    )
 }
 
 // Stores the limits' bytes before so many records, and answers how long the tape is.
@@ -31,26 +34,15 @@ fn put_limits(head: &[u8], blocks: usize, out: &mut [u8]) -> usize
     end + RECORD_BYTES * blocks
 }
 
-// Stores the tape of limits that are right and a text, or the line of the text's refusal.
-fn put_text(head: &[u8], text: &[u8], out: &mut [u8]) -> usize
-    requires { (limits_read_refusal head.now ≡ 0) × (length out.old ≡ most_bytes) }
-    ensures { Stored out.old 0 (tape_or_line head.now text.now) result out.new }
-{
-    match text_records(text, &mut out[LIMITS_BYTES..]) {
-        TextAnswer::Written(blocks) => put_limits(head, blocks, out),
-        TextAnswer::Refused(why, place) => put_refusal(why, place, out),
-    }
-}
-
-// Stores the tape, or the line of the first refusal: that of the limits comes before those of the text.
-fn put_tape(head: &[u8], text: &[u8], out: &mut [u8]) -> usize
+// Stores the tape of limits and a text, and answers how many bytes it has; else the lent bytes stay. The refusal of the
+// limits comes before those of the text.
+fn put_tape(head: &[u8], text: &[u8], out: &mut [u8]) -> Result<usize, RefusedAt>
     requires { length out.old ≡ most_bytes }
-    ensures { Stored out.old 0 (tape_or_line head.now text.now) result out.new }
+    ensures { Makes head.now text.now out.old result out.new }
 {
-    match read_limits(head) {
-        LimitsRead::Read(_) => put_text(head, text, out),
-        LimitsRead::Refused(why) => put_refusal(why, 0, out),
-    }
+    read_limits(head)?;
+    let blocks = text_records(text, &mut out[LIMITS_BYTES..])?;
+    Ok(put_limits(head, blocks, out))
 }
 
 // Stores the tape of limits, as bytes of which the first 24 count, and a text at the beginning of the lent bytes, or the
@@ -58,5 +50,8 @@ fn put_tape(head: &[u8], text: &[u8], out: &mut [u8]) -> usize
 pub fn text_tape(head: &[u8], text: &[u8], out: &mut [u8; MOST_BYTES]) -> usize
     ensures { Stored out.old 0 (tape_or_line head.now text.now) result out.new }
 {
-    put_tape(head, text, out)
+    match put_tape(head, text, out) {
+        Ok(end) => end,
+        Err(refused) => put_refusal(refused, out),
+    }
 }

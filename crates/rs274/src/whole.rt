@@ -1,71 +1,42 @@
 // A whole text: its lines one after the other, and the records of its blocks, all or none.
-ghost use Rattle.std.specs.Prelude.{◌≡◌, ◌+◌, ◌*◌, ◌≤◌, min, length, take};
-ghost use Rattle.tape.specs.Tape.{record_bytes};
+ghost use Rattle.std.specs.Prelude.{◌≡◌, []};
 ghost use Rattle.rs274.specs.Answers.{WroteText};
-ghost use Rattle.rs274.specs.Kept.{Reads, WroteKept, kept_bytes};
+ghost use Rattle.rs274.specs.Kept.{Holds, Reads};
 ghost use Rattle.rs274.specs.Text.{text_run};
 
+use crate::kept::Kept;
 use crate::line::take_line;
 use crate::state::begin;
-use crate::{LineTaken, TextAnswer};
-use display::Refusal;
-use tape::{MOST_BLOCKS, RECORD_BYTES};
-use text::{Put, put_bytes};
+use display::RefusedAt;
 use words::bytes::line_length;
 
-// Bytes of the records that are kept at most.
-const KEPT: usize = RECORD_BYTES * MOST_BLOCKS;
-
-// The place behind the line that ends at this place, and behind its line feed, which a last line may not have.
-fn behind_line(end: usize, size: usize) -> usize
-    requires { end ≤ size }
-    ensures { result ≡ min (end + 1) size }
-{
-    if end < size { end + 1 } else { size }
-}
-
-// Reads the lines of a text and keeps the records of its blocks.
-fn read_lines(text: &[u8], made: &mut [u8]) -> TextAnswer
-    requires { length made.old ≡ kept_bytes }
-    ensures { Reads (text_run text.now) result made.new }
+// Reads the lines of a text and keeps the records of its blocks. Refuses with the number of the line at fault, counted
+// from 1.
+fn read_lines(text: &[u8], kept: &mut Kept) -> Result<(), RefusedAt>
+    requires { Holds kept.old.bytes kept.old.count [] }
+    ensures { Reads (text_run text.now) result kept.new }
 {
     let mut m = begin();
-    let mut count: usize = 0;
-    let mut place: usize = 0;
-    let mut at: usize = 0;
-    while at < text.len() {
-        let end = at + line_length(&text[at..]);
+    let mut place = 0;
+    // By what is left, and no `for`: from the pieces of `split_inclusive` the line feeds would have to be taken off again, and std
+    // has no clause `runs` of it, so that a proof over `split_inclusive(..).enumerate()` did not close.
+    let mut rest = text;
+    while !rest.is_empty() {
+        let size = line_length(rest);
         place += 1;
-        match take_line(m, count, place, &text[at..end], made) {
-            LineTaken::Next(next, kept) => {
-                m = next;
-                count = kept;
-            }
-            LineTaken::Refused(why) => return TextAnswer::Refused(why, place),
-        }
-        at = behind_line(end, text.len());
+        m = take_line(m, place, &rest[..size], kept).map_err(|why| RefusedAt { why, place })?;
+        // behind the line feed, which the last line may not have
+        rest = &rest[rest.len().min(size + 1)..];
     }
-    TextAnswer::Written(count)
+    Ok(())
 }
 
-// Writes the kept records of a text at the beginning of the lent list: 9 where it is too short.
-fn write_kept(count: usize, made: &[u8], records: &mut [u8]) -> TextAnswer
-    requires { record_bytes * count ≤ length made.now }
-    ensures { WroteKept count (take (record_bytes * count) made.now) records.old result records.new }
-{
-    match put_bytes(records, 0, &made[..RECORD_BYTES * count]) {
-        Put::At(_) => TextAnswer::Written(count),
-        Put::NoRoom => TextAnswer::Refused(Refusal::Ragged, 0),
-    }
-}
-
-// Writes the blocks of a text as tape records from the first lent byte on, all or none. Any bytes are a text.
-pub fn text_records(text: &[u8], records: &mut [u8]) -> TextAnswer
+// Writes the blocks of a text as tape records from the first lent byte on, all or none, and answers how many there are.
+// Any bytes are a text. Refuses with the number of the line at fault, counted from 1; 0 where too little is lent.
+pub fn text_records(text: &[u8], records: &mut [u8]) -> Result<usize, RefusedAt>
     ensures { WroteText text.now records.old result records.new }
 {
-    let mut made = [0u8; KEPT];
-    match read_lines(text, &mut made) {
-        TextAnswer::Written(count) => write_kept(count, &made, records),
-        TextAnswer::Refused(why, place) => TextAnswer::Refused(why, place),
-    }
+    let mut kept = Kept::new();
+    read_lines(text, &mut kept)?;
+    kept.write(records)
 }

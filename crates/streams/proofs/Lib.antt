@@ -1,3 +1,2 @@
 -- The laws of what is read.
 pub mod Answers
-pub mod Within

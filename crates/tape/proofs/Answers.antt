@@ -8,8 +8,7 @@ use Rattle.display.proofs.Answers.{refusal_above, at_zero, above_zero, gives, re
 use Rattle.display.specs.Display.{refusal_number, checked_means, by_number, given, refused, Fault, ◌at◌}
 use Rattle.tape.specs.Answers.{ragged_below, Wrote, by_fault}
 use Rattle.display.specs.declared.Refusal.{Refusal}
-use Rattle.display.specs.declared.Checked.{Checked}
-use Rattle.display.specs.declared.Checked.TheVariants.{Passed}
+use Rattle.std.specs.Prelude.{Result, Ok, ⊤}
 use Rattle.tape.specs.Tape.{records_in}
 
 -- Enough bytes lent, or too few.
@@ -28,8 +27,8 @@ faultless s {f} e = gives (records_in s) f (ap (λ (g : Fault). g.number) e) ref
 
 -- What a writer leaves.
 module _ (new old : List ℕ) {n : ℕ} where
-  pub wrote_none : (r : Checked) → 0 < checked_means r → checked_means r ≡ n → Wrote n (by_number n new old) r old
+  pub wrote_none : (r : Result ⊤ Refusal) → 0 < checked_means r → checked_means r ≡ n → Wrote n (by_number n new old) r old
   wrote_none r h e = record { number = e; bytes = sym (above_zero new old (rw e at h)) }
 
-  pub wrote_all : {left : List ℕ} → n ≡ 0 → left ≡ new → Wrote n (by_number n new old) Passed left
+  pub wrote_all : {left : List ℕ} → n ≡ 0 → left ≡ new → Wrote n (by_number n new old) (Ok tt) left
   wrote_all e f = record { number = sym e; bytes = f ∙ sym (at_zero new old e) }

@@ -17,7 +17,8 @@ use Rattle.fields.proofs.Bytes.{length_with, take_with, drop_with}
 use Rattle.machine.specs.Lists.{limits_from}
 use Rattle.machine.specs.Checks.{block_refusal}
 use Rattle.machine.specs.declared.Block.{Block}
-use Rattle.display.specs.declared.Checked.{Checked}
+use Rattle.std.specs.Prelude.{Result, ⊤}
+use Rattle.display.specs.declared.Refusal.{Refusal}
 use Rattle.tape.specs.Tape.{limits_bytes, limits_layout, limits_at, zero_bits, record_bytes, record_layout, block_from, block_number, block_at, record_start, record_at, records_in, tape_blocks}
 use Rattle.tape.specs.Answers.{limits_fault, record_write_refusal, record_written, tape_write_refusal, tape_written, Wrote, head_refusal, tape_refusal}
 use Rattle.display.specs.Display.{Fault}
@@ -177,7 +178,7 @@ lent_part k s from e =
     take_all (length s - from) (drop from s) (le_of_eq (length-drop from s)) ∙ ap (λ (n : ℕ). drop n s) e ∙ drop_min (record_start k) s
 
 -- what the writer leaves is put back.
-pub written_part : (b : Block) (k : ℕ) (s : List ℕ) (from : ℕ) {r : Checked} {left : List ℕ} → from ≡ min (record_start k) (length s)
+pub written_part : (b : Block) (k : ℕ) (s : List ℕ) (from : ℕ) {r : Result ⊤ Refusal} {left : List ℕ} → from ≡ min (record_start k) (length s)
     → Wrote (record_write_refusal b (mid_of from (length s - from) s)) (record_written b (mid_of from (length s - from) s)) r left
     → Wrote (tape_write_refusal b k s) (tape_written b k s) r (put_mid from (length s - from) s left)
 unfolding tape_write_refusal tape_written

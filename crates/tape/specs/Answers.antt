@@ -1,18 +1,12 @@
 -- Document 01, "Numbers on the display": what reading, writing and checking a tape answer.
-use Rattle.std.specs.Prelude.{ℕ, suc, ◌-◌, ◌%◌, ◌≡◌, not, cond, ◌||◌, List, ◌∷◌, ◌++◌, [], ltb, eqb, length, take, drop}
-use Rattle.display.specs.Display.{refusal_number, checked_means, by_number, ◌then◌, Outcome, or_refused, Fault, ◌at◌, ◌else◌, given, refused}
+use Rattle.std.specs.Prelude.{ℕ, suc, ◌-◌, ◌%◌, ◌≡◌, not, cond, ◌||◌, List, ◌∷◌, ◌++◌, [], ltb, eqb, length, take, drop, Result, ⊤}
+use Rattle.display.specs.Display.{checked_means, by_number, ◌then◌, Outcome, or_refused, Fault, ◌at◌, ◌else◌, given, refused}
 use Rattle.fields.specs.Bytes.{with_bytes}
 use Rattle.machine.specs.Checks.{limits_refusal, block_refusal}
 use Rattle.machine.specs.declared.Limits.{Limits}
 use Rattle.machine.specs.declared.Block.{Block}
-use Rattle.display.specs.declared.Checked.{Checked}
+use Rattle.display.specs.declared.Refusal.{Refusal}
 use Rattle.tape.specs.Tape.{limits_bytes, limits_number, limits_at, zero_bits, record_bytes, block_number, block_at, record_start, records_in, tape_blocks}
-use Rattle.tape.specs.declared.LimitsRead.{LimitsRead}
-use Rattle.tape.specs.declared.LimitsRead.TheVariants as limits
-use Rattle.tape.specs.declared.RecordRead.{RecordRead}
-use Rattle.tape.specs.declared.RecordRead.TheVariants as rec
-use Rattle.tape.specs.declared.TapeCheck.{TapeCheck}
-use Rattle.tape.specs.declared.TapeCheck.TheVariants as whole
 
 -- 9 where fewer bytes than n are lent, else 0
 abbrev pub ragged_below : (n : ℕ) → List ℕ → ℕ
@@ -51,23 +45,15 @@ unfoldable pub tape_written : Block → (k : ℕ) → List ℕ → List ℕ
 tape_written b k s = take (record_start k) s ++ record_written b (drop (record_start k) s)
 
 -- a writer answers r, whose number is n, and leaves the lent bytes as t
-pub record Wrote (n : ℕ) (t : List ℕ) (r : Checked) (left : List ℕ) : Type 0 where
+pub record Wrote (n : ℕ) (t : List ℕ) (r : Result ⊤ Refusal) (left : List ℕ) : Type 0 where
   pub number : checked_means r ≡ n
   pub bytes : left ≡ t
 
--- the answer of each case of reading limits, and what bytes are answered
-abbrev pub limits_means : LimitsRead → Outcome ℕ Limits
-limits_means (limits.Read l) = given l
-limits_means (limits.Refused why) = refused (refusal_number why)
-
+-- what bytes are answered that are read as limits
 unfoldable pub read_limits : List ℕ → Outcome ℕ Limits
 read_limits s = or_refused (limits_read_refusal s) (limits_at s)
 
--- the answer of each case of reading a record, and what bytes are answered
-abbrev pub record_means : RecordRead → Outcome ℕ Block
-record_means (rec.Read b) = given b
-record_means (rec.Refused why) = refused (refusal_number why)
-
+-- and that are read as a record
 unfoldable pub read_record : List ℕ → Outcome ℕ Block
 read_record s = or_refused (record_read_refusal s) (block_at s)
 
@@ -106,11 +92,6 @@ tape_refusal s = (tape_fault s).number
 -- what reading its head answers: the limits, or the number
 unfoldable pub read_head : List ℕ → Outcome ℕ Limits
 read_head s = or_refused (head_refusal s) (limits_at s)
-
--- the answer of each case of checking a whole tape
-abbrev pub tape_means : TapeCheck → Outcome Fault ℕ
-tape_means (whole.Accepted n) = given n
-tape_means (whole.Refused why p) = refused (refusal_number why at p)
 
 -- what a tape s is answered whose fault is f: the number of its blocks where there is none
 abbrev pub by_fault : Fault → List ℕ → Outcome Fault ℕ

@@ -6,9 +6,6 @@ pub mod limits;
 pub mod records;
 pub mod whole;
 
-use display::Refusal;
-use machine::{Block, Limits};
-
 // Bytes of the limits, and of each record behind them.
 pub const LIMITS_BYTES: usize = 24;
 
@@ -17,26 +14,3 @@ pub const RECORD_BYTES: usize = 16;
 pub const MOST_BLOCKS: usize = 2_048;
 
 pub const MOST_BYTES: usize = LIMITS_BYTES + RECORD_BYTES * MOST_BLOCKS;
-
-// The answer of reading limits.
-#[derive(Clone, Copy)]
-pub enum LimitsRead {
-    Read(Limits),
-    Refused(Refusal),
-}
-
-// The answer of reading one record.
-#[derive(Clone, Copy)]
-pub enum RecordRead {
-    Read(Block),
-    Refused(Refusal),
-}
-
-// The answer of checking a whole tape.
-#[derive(Clone, Copy)]
-pub enum TapeCheck {
-    // the number of its blocks
-    Accepted(usize),
-    // why, and the place of the record at fault, counted from 1; 0 where no record is at fault
-    Refused(Refusal, usize),
-}

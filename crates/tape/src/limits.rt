@@ -5,14 +5,16 @@ ghost use Rattle.fields.specs.Bytes.{with_bytes};
 ghost use Rattle.fields.specs.Fields.{Bits};
 ghost use Rattle.machine.specs.Numbers.{AxesBelow};
 ghost use Rattle.tape.specs.Tape.{limits_at, limits_bytes, limits_fields, limits_layout, limits_number};
-ghost use Rattle.tape.specs.Answers.{limits_means, limits_write_refusal, limits_written, read_limits, Wrote};
+ghost use Rattle.display.specs.Display.{outcome_of};
+ghost use Rattle.tape.specs.Answers.{limits_write_refusal, limits_written, read_limits, Wrote};
 
-use crate::{LIMITS_BYTES, LimitsRead};
-use display::{Checked, Refusal};
+use crate::LIMITS_BYTES;
+use display::Refusal;
 use machine::check::check_limits;
 use machine::{Axes, Limits};
 
-// The limits that the first bytes say, unchecked, whatever the zero bits are. A field is named by its first bit and its width.
+// The limits that the first bytes say, unchecked, whatever the zero bits are. A field is named by its first bit and its width,
+// written out and in no table, since the library has no tables in read-only memory (at most 128 bytes).
 fn decode_limits(s: &[u8]) -> Limits
     requires { limits_bytes ≤ length s.now }
     ensures { result ≡ limits_at s.now }
@@ -74,34 +76,29 @@ fn store_limits(l: Limits, out: &mut [u8])
 }
 
 // Reads the limits that the bytes begin with; later bytes play no part. 9 comes first, then 1.
-pub fn read_limits(s: &[u8]) -> LimitsRead
-    ensures { limits_means result ≡ read_limits s.now }
+pub fn read_limits(s: &[u8]) -> Result<Limits, Refusal>
+    ensures { outcome_of result ≡ read_limits s.now }
 {
     if s.len() < LIMITS_BYTES {
-        return LimitsRead::Refused(Refusal::Ragged);
+        return Err(Refusal::Ragged);
     }
     if fields::read_field(s, 179, 13) != 0 {
-        return LimitsRead::Refused(Refusal::Limits);
+        return Err(Refusal::Limits);
     }
     let l = decode_limits(s);
-    match check_limits(l) {
-        Checked::Passed => LimitsRead::Read(l),
-        Checked::Refused(why) => LimitsRead::Refused(why),
-    }
+    check_limits(l)?;
+    Ok(l)
 }
 
 // Writes limits at the beginning of the lent bytes, of which only `LIMITS_BYTES` change. 1 comes first, then 9.
-pub fn write_limits(l: Limits, out: &mut [u8]) -> Checked
+// Why it is no one function with `write_record` stands there.
+pub fn write_limits(l: Limits, out: &mut [u8]) -> Result<(), Refusal>
     ensures { Wrote (limits_write_refusal l out.old) (limits_written l out.old) result out.new }
 {
-    match check_limits(l) {
-        Checked::Refused(why) => Checked::Refused(why),
-        Checked::Passed => {
-            if out.len() < LIMITS_BYTES {
-                return Checked::Refused(Refusal::Ragged);
-            }
-            store_limits(l, out);
-            Checked::Passed
-        }
+    check_limits(l)?;
+    if out.len() < LIMITS_BYTES {
+        return Err(Refusal::Ragged);
     }
+    store_limits(l, out);
+    Ok(())
 }

@@ -4,10 +4,11 @@ ghost use Rattle.fields.specs.Layouts.{InWidths};
 ghost use Rattle.fields.specs.Bytes.{with_bytes};
 ghost use Rattle.fields.specs.Fields.{Bits};
 ghost use Rattle.tape.specs.Tape.{block_at, block_fields, block_number, record_at, record_bytes, record_layout, record_start, records_in};
-ghost use Rattle.tape.specs.Answers.{read_record, record_means, record_write_refusal, record_written, tape_write_refusal, tape_written, Wrote};
+ghost use Rattle.display.specs.Display.{outcome_of};
+ghost use Rattle.tape.specs.Answers.{read_record, record_write_refusal, record_written, tape_write_refusal, tape_written, Wrote};
 
-use crate::{LIMITS_BYTES, RECORD_BYTES, RecordRead};
-use display::{Checked, Refusal};
+use crate::{LIMITS_BYTES, RECORD_BYTES};
+use display::Refusal;
 use machine::Block;
 use machine::blocks::{label_of, labelled_block};
 use machine::check::check_block;
@@ -23,7 +24,7 @@ fn feed_of(first: u64, second: u64) -> u64
 }
 
 // The block that the first bytes say, unchecked. Moves X, Y and Z have 43, 22 and 1
-// bits below them in the first word, and the radius has 21 below it in the second.
+// bits below them in the first word, and the radius has 21 below it in the second: numbers written out and no table, as for limits.
 fn decode_record(s: &[u8]) -> Block
     requires { record_bytes ≤ length s.now }
     ensures { result ≡ block_at s.now }
@@ -76,58 +77,45 @@ fn store_record(b: Block, out: &mut [u8])
 }
 
 // Reads the record that the bytes begin with; later bytes play no part. 9 comes first, then 2 to 6.
-pub fn read_record(s: &[u8]) -> RecordRead
-    ensures { record_means result ≡ read_record s.now }
+pub fn read_record(s: &[u8]) -> Result<Block, Refusal>
+    ensures { outcome_of result ≡ read_record s.now }
 {
     if s.len() < RECORD_BYTES {
-        return RecordRead::Refused(Refusal::Ragged);
+        return Err(Refusal::Ragged);
     }
     let b = decode_record(s);
-    match check_block(b) {
-        Checked::Passed => RecordRead::Read(b),
-        Checked::Refused(why) => RecordRead::Refused(why),
-    }
+    check_block(b)?;
+    Ok(b)
 }
 
 // Writes a block's record at the beginning of the lent part of a tape, of which only the record's bytes change. 2 to 6 come first, then 9.
-pub fn write_record(b: Block, out: &mut [u8]) -> Checked
+// `write_limits` says the same of limits: one generic function would need a trait with a size, a check, a store and their laws for
+// these two bodies of four lines.
+pub fn write_record(b: Block, out: &mut [u8]) -> Result<(), Refusal>
     ensures { Wrote (record_write_refusal b out.old) (record_written b out.old) result out.new }
 {
-    match check_block(b) {
-        Checked::Refused(why) => Checked::Refused(why),
-        Checked::Passed => {
-            if out.len() < RECORD_BYTES {
-                return Checked::Refused(Refusal::Ragged);
-            }
-            store_record(b, out);
-            Checked::Passed
-        }
+    check_block(b)?;
+    if out.len() < RECORD_BYTES {
+        return Err(Refusal::Ragged);
     }
+    store_record(b, out);
+    Ok(())
 }
 
 // The byte at which record k of a tape begins, k counted from 0; the end of the tape where it ends before that. No k is too
-// large: the byte is worked out only where it lies in the tape.
+// large: a byte past all tapes is any of them.
 fn start_within(k: usize, bytes: usize) -> usize
     ensures { result ≡ min (record_start k) bytes }
 {
-    if bytes / RECORD_BYTES < k {
-        return bytes;
-    }
-    let behind = RECORD_BYTES * k;
-    if bytes - behind < LIMITS_BYTES {
-        return bytes;
-    }
-    LIMITS_BYTES + behind
+    let behind = RECORD_BYTES.saturating_mul(k);
+    LIMITS_BYTES.saturating_add(behind).min(bytes)
 }
 
 // How many records a tape has behind its limits.
 pub fn records_in(s: &[u8]) -> usize
     ensures { result ≡ records_in s.now }
 {
-    if s.len() < LIMITS_BYTES {
-        return 0;
-    }
-    (s.len() - LIMITS_BYTES) / RECORD_BYTES
+    s.len().saturating_sub(LIMITS_BYTES) / RECORD_BYTES
 }
 
 // The block that record k of a tape says, k counted from 0, unchecked.
@@ -142,7 +130,7 @@ pub fn block_at(s: &[u8], k: usize) -> Block
 // Writes a block as record k of a tape, k counted from 0: the writer of a record is lent the part that begins at that
 // record, which is empty if the tape ends before that. Only the record's bytes change. 2 to 6 come first, then 9
 // where the tape ends before the record does.
-pub fn write_record_at(b: Block, tape: &mut [u8], k: usize) -> Checked
+pub fn write_record_at(b: Block, tape: &mut [u8], k: usize) -> Result<(), Refusal>
     ensures { Wrote (tape_write_refusal b k tape.old) (tape_written b k tape.old) result tape.new }
 {
     let from = start_within(k, tape.len());

@@ -18,13 +18,14 @@ use Rattle.tape.specs.Tape.{record_at, records_in}
 use Rattle.tape.proofs.Faults.{tape_passed}
 use Rattle.tapeplan.specs.Planned.{WholeTape, tape_machine, tape_plan, tape_spans, whole_refusal}
 use Rattle.tapeplan.specs.Sheet.{measured_at, measured_of}
-use Rattle.tapeplan.specs.declared.TapePlanned.{TapePlanned}
-use Rattle.tapeplan.specs.declared.TapePlanned.TheVariants.{Planned}
+use Rattle.std.specs.Prelude.{⊤, Result, Ok}
+use Rattle.display.specs.declared.RefusedAt.{RefusedAt}
 use Rattle.tapeplan.proofs.Answered.{whole_passed}
 use Rattle.tapeplan.proofs.Surveys.{cap_is_lem}
 use Rattle.tapeplan.proofs.Wholes.{planned_passed, planned_speeds}
 use Rattle.tape_rows.specs.Rows.{row_numbers, row_size, rows_from, sheet_row, shown_row, tape_rows}
 use Rattle.tape_rows.proofs.Plans.{ramp_between_lem}
+use Rattle.tapeplan.specs.declared.Measured.{Measured}
 
 -- one row more behind others
 rows_more : (row : ℕ → List ℕ) (k n : ℕ) → rows_from row k (suc n) ≡ rows_from row k n ++ row (k + n)
@@ -58,7 +59,7 @@ rows_same f g k zero e = refl
 rows_same f g k (suc n) e = λ j. e k (omega arith) j ++ rows_same f g (suc k) n (λ i h. e i (omega arith)) j
 
 -- Of an accepted tape
-module _ (s loaded sheet plan : List ℕ) (passed : whole_refusal s loaded ≡ 0)
+module _ (s loaded : List ℕ) (sheet : List Measured) (plan : List ℕ) (passed : whole_refusal s loaded ≡ 0)
     (rows : (k : ℕ) → k < records_in s → measured_at sheet k ≡ measured_of (tape_machine s loaded) s k)
     (speeds : (k : ℕ) → k ≤ records_in s → number_at plan k ≡ number_at (tape_plan s loaded) k) where
   abbrev m : Machine
@@ -89,6 +90,6 @@ module _ (s loaded sheet plan : List ℕ) (passed : whole_refusal s loaded ≡ 0
   rows_are = rows_same (sheet_row s sheet plan) (row_numbers s loaded) 0 (records_in s) (λ k h. row_is k (omega arith))
 
 -- The same of a tape that is planned, from the promise of planning it.
-module _ {s loaded work sheet before after : List ℕ} {r : TapePlanned} (w : WholeTape s loaded work sheet before after r) (is : r ≡ Planned) where
+module _ {s loaded : List ℕ} {work sheet : List Measured} {before after : List ℕ} {r : Result ⊤ RefusedAt} (w : WholeTape s loaded work sheet before after r) (is : r ≡ Ok tt) where
   pub planned_rows : rows_from (sheet_row s sheet after) 0 (records_in s) ≡ tape_rows s loaded
   planned_rows = rows_are s loaded sheet after (planned_passed w is) (w.rows (planned_passed w is)) (planned_speeds w is)

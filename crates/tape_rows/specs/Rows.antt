@@ -1,5 +1,5 @@
 -- A tape's list: for each block of a tape a row of numbers, one after the other.
-use Rattle.std.specs.Prelude.{List, ◌∷◌, ◌++◌, [], ℕ, zero, suc, ◌+◌, ◌-◌, ◌*◌, min}
+use Rattle.std.specs.Prelude.{List, ◌∷◌, ◌++◌, [], ℕ, zero, suc, ◌+◌, ◌-◌, ◌*◌, min, ⊤, Result}
 use Rattle.profile.specs.Line.{cap_at, number_at}
 use Rattle.machine.specs.Numbers.{block_cap}
 use Rattle.machine.specs.declared.Block.{Block}
@@ -10,7 +10,7 @@ use Rattle.tape.specs.Tape.{record_at, records_in, tape_limits}
 use Rattle.tapeplan.specs.Planned.{FilledTape, tape_machine, tape_plan, tape_spans}
 use Rattle.tapeplan.specs.Sheet.{measured_at}
 use Rattle.tapeplan.specs.declared.Measured.{Measured}
-use Rattle.tapeplan.specs.declared.TapePlanned.{TapePlanned}
+use Rattle.display.specs.declared.RefusedAt.{RefusedAt}
 
 -- block k of an accepted tape as it is given out with loaded torque steps
 abbrev pub row_of : (s loaded : List ℕ) (k : ℕ) → Given
@@ -41,7 +41,7 @@ abbrev pub rows_size : (s : List ℕ) → ℕ
 rows_size s = row_size * records_in s
 
 -- a lent list of as many numbers, else 11, gets them
-abbrev pub ListedTape : (s loaded before after : List ℕ) → TapePlanned → Type 0
+abbrev pub ListedTape : (s loaded before after : List ℕ) → Result ⊤ RefusedAt → Type 0
 ListedTape s loaded before after r = FilledTape s loaded (rows_size s) (tape_rows s loaded) before after r
 
 -- the row of what is measured of a block, between two speeds with the ramp between them
@@ -63,7 +63,7 @@ shown_row b r entry exit ramp junction =
     ∷ []
 
 -- row k as it is made from a sheet and a list of speeds: the laws `row_is` and `planned_rows` say that it is that of the tape
-abbrev pub sheet_row : (s sheet plan : List ℕ) (k : ℕ) → List ℕ
+abbrev pub sheet_row : (s : List ℕ) (sheet : List Measured) (plan : List ℕ) (k : ℕ) → List ℕ
 sheet_row s sheet plan k =
     shown_row
     (record_at s k)

@@ -13,8 +13,8 @@ use Rattle.tape.specs.Answers.{tape_refusal}
 use Rattle.tape.specs.Tape.{records_in}
 use Rattle.tapeplan.specs.Planned.{tape_plan, whole_fault, plan_fault, PlannedTape, TapeDemand3, planned_means}
 use Rattle.tapeplan.proofs.Answered.{whole_faultless}
-use Rattle.tapeplan.specs.declared.TapePlanned.{TapePlanned}
-use Rattle.tapeplan.specs.declared.TapePlanned.TheVariants.{Planned, Refused}
+use Rattle.std.specs.Prelude.{⊤, Result, Ok, Err}
+use Rattle.display.specs.declared.RefusedAt.{RefusedAt}
 
 -- An accepted tape with accepted steps and a list of the right length has no fault.
 no_fault : (s loaded : List ℕ) (lent : ℕ) → tape_refusal s ≡ 0 → steps_refusal loaded ≡ 0 → lent ≡ records_in s + 1 → plan_fault s loaded lent ≡ 0 at 0
@@ -24,7 +24,7 @@ no_fault s loaded lent passed steps fits =
     ∙ ap (λ (t : Bool). cond t 0 11 at 0) (eq-eqb lent (records_in s + 1) fits)
 
 -- DEMAND 3 of a tape. For every accepted tape, all accepted steps and every list one longer than the tape's blocks.
-pub tape_demand3 : {s loaded before after : List ℕ} {r : TapePlanned} → PlannedTape s loaded before after r → tape_refusal s ≡ 0 → steps_refusal loaded ≡ 0
+pub tape_demand3 : {s loaded before after : List ℕ} {r : Result ⊤ RefusedAt} → PlannedTape s loaded before after r → tape_refusal s ≡ 0 → steps_refusal loaded ≡ 0
     → length before ≡ records_in s + 1 → TapeDemand3 s loaded after r
 tape_demand3 {s} {loaded} {before} {r} p passed steps fits =
     let none = no_fault s loaded (length before) passed steps fits in
@@ -35,6 +35,6 @@ tape_demand3 {s} {loaded} {before} {r} p passed steps fits =
       highest = p.highest zero;
     }
   where
-    planned : (r : TapePlanned) → planned_means r ≡ 0 at 0 → r ≡ Planned
-    planned Planned e = refl
-    planned (Refused why place) e = absurd (omega (arith, refusal_above why, ap (λ (f : Fault). f.number) e))
+    planned : (r : Result ⊤ RefusedAt) → planned_means r ≡ 0 at 0 → r ≡ Ok tt
+    planned (Ok _) e = refl
+    planned (Err r) e = absurd (omega (arith, refusal_above r.why, ap (λ (f : Fault). f.number) e))

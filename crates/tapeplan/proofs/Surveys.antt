@@ -6,7 +6,8 @@ use native.Mathlib.Omega.{arith}
 use lib.Dec.{eqb, eqb-suc-zero}
 use lib.ListN.{length, take, set}
 use mathlib.Core.Bool.{cond}
-use Rattle.profile.specs.Line.{Span, cap_at, reach_at}
+use Rattle.profile.specs.Line.{cap_at, reach_at}
+use Rattle.profile.specs.declared.Span.{Span}
 use Rattle.machine.specs.Checks.{block_refusal}
 use Rattle.machine.specs.Numbers.{Joinable, LimitsBelow, block_cap, corner_beside, gauged_of, junction_cap, numbers_of, reach_of}
 use Rattle.machine.specs.Line.{spans_of}
@@ -19,7 +20,6 @@ use Rattle.machine.proofs.Junctions.{numbers_joinable}
 use Rattle.machine.proofs.Spans.{spans_length, spans_first, spans_cap, spans_reach}
 use Rattle.tape.specs.Tape.{record_at, records_in, tape_blocks}
 use Rattle.tape.proofs.Faults.{length_blocks, get_d_blocks, PassedBefore, passed_next}
-use Rattle.passes.specs.Lent.{line_of}
 use Rattle.tapeplan.specs.declared.Measured.{Measured}
 use Rattle.tapeplan.specs.Sheet.{Measures, Keeps, corner_at}
 use Rattle.passes.proofs.Filled.{Filled, filled_more, filled_line}
@@ -76,12 +76,11 @@ module _ (m : Machine) (s : List ℕ) where
   pub reach_is : (k : ℕ) → k < records_in s → reach_of m (record_at s k) ≡ reach_at spans k
   reach_is k h = sym (spans_reach (record_at s 0) m (tape_blocks s) k (omega (arith, length_blocks s)) ∙ ap (reach_of m) (get_d_blocks s (record_at s 0) h))
 
-  -- the first k records have passed, the lists have their caps and reaches, and the sheet has what is measured of them
-  pub record Surveying (start sheet caps reaches : List ℕ) (before : Block) (known : Numbers) (k : ℕ) : Type 0 where
+  -- the first k records have passed, the line has their spans, and the sheet has what is measured of them
+  pub record Surveying (start sheet : List Measured) (line : List Span) (before : Block) (known : Numbers) (k : ℕ) : Type 0 where
     pub passed : PassedBefore s k
     pub measured : Measures m s start sheet k
-    pub capped : Filled caps k (cap_at spans)
-    pub reached : Filled reaches k (reach_at spans)
+    pub filled : Filled line k spans
     pub previous : 0 < k → Known before known k
 
   -- what is measured of a block, from what it is gauged by
@@ -89,12 +88,12 @@ module _ (m : Machine) (s : List ℕ) where
   measured_by b g corner = record { mark = b.mark; numbers = g.numbers; square = g.square; corner = corner }
 
   -- one record more
-  pub survey_next : {start sheet sheet' caps reaches : List ℕ} {before : Block} {known : Numbers} (k : ℕ) (b : Block) (g : Gauged) (corner cap : ℕ)
-      → Surveying start sheet caps reaches before known k → k < records_in s → k < length caps → k < length reaches → b ≡ record_at s k → block_refusal b ≡ 0 → g ≡ gauged_of m b
+  pub survey_next : {start sheet sheet' : List Measured} {line : List Span} {before : Block} {known : Numbers} (k : ℕ) (b : Block) (g : Gauged) (corner cap : ℕ)
+      → Surveying start sheet line before known k → k < records_in s → k < length line → b ≡ record_at s k → block_refusal b ≡ 0 → g ≡ gauged_of m b
       → corner ≡ cond (eqb k 0) 0 (corner_beside m.limits.jump before known b g.numbers) → Keeps sheet k (measured_by b g corner) sheet'
-      → cap ≡ min (min known.cap g.numbers.cap) corner → Surveying start sheet' (set caps k cap) (set reaches k g.numbers.reach) b g.numbers (k + 1)
+      → cap ≡ min (min known.cap g.numbers.cap) corner → Surveying start sheet' (set line k (record { cap = cap; reach = g.numbers.reach })) b g.numbers (k + 1)
   unfolding numbers_of
-  survey_next {caps} {reaches} {before} {known} k b g corner cap v h cs rs e p q f keeps d =
+  survey_next {line} {before} {known} k b g corner cap v h ls e p q f keeps d =
       let back : k ≡ k + 1 - 1 = omega arith in
       let gauged : g ≡ gauged_of m (record_at s k) = q ∙ ap (gauged_of m) e in
       let turns : corner ≡ corner_at m s k =
@@ -102,15 +101,16 @@ module _ (m : Machine) (s : List ℕ) where
       record {
         passed = passed_next s v.passed h (ap block_refusal (sym e) ∙ p);
         measured = measures_next m s k v.measured keeps (λ i. measured_by (e i) (gauged i) (turns i));
-        capped = filled_more caps k cap (cap_at spans) cs (d ∙ (λ i. min (min known.cap (gauged i).numbers.cap) (turns i)) ∙ cap_is_lem k h v.previous) v.capped;
-        reached = filled_more reaches k g.numbers.reach (reach_at spans) rs (ap (λ (o : Gauged). o.numbers.reach) gauged ∙ reach_is k h) v.reached;
+        filled =
+            let capped = d ∙ (λ i. min (min known.cap (gauged i).numbers.cap) (turns i)) ∙ cap_is_lem k h v.previous in
+            let reached = ap (λ (o : Gauged). o.numbers.reach) gauged ∙ reach_is k h in
+            filled_more line k (record { cap = cap; reach = g.numbers.reach }) spans ls (λ i. record { cap = capped i; reach = reached i }) v.filled;
         previous = λ z. record { block = e ∙ ap (record_at s) back; passes = p; numbers = ap (λ (o : Gauged). o.numbers) q };
       }
 
   -- all of them
-  pub survey_all : {start sheet caps reaches : List ℕ} {before : Block} {known : Numbers} {k : ℕ} → Surveying start sheet caps reaches before known k → records_in s ≤ k → records_in s ≤ length caps → records_in s ≤ length reaches
-      → line_of (take (records_in s) caps) (take (records_in s) reaches) ≡ spans
-  survey_all {caps} {reaches} v h cs rs =
+  pub survey_all : {start sheet : List Measured} {line : List Span} {before : Block} {known : Numbers} {k : ℕ} → Surveying start sheet line before known k → records_in s ≤ k → records_in s ≤ length line
+      → take (records_in s) line ≡ spans
+  survey_all {line} v h ls =
       let n : length spans ≡ records_in s = spans_length m (tape_blocks s) ∙ length_blocks s in
-      ap (λ (c : ℕ). line_of (take c caps) (take c reaches)) (sym n)
-      ∙ filled_line spans caps reaches (omega arith) (omega arith) (λ i b. v.capped i (omega arith)) (λ i b. v.reached i (omega arith))
+      ap (λ (c : ℕ). take c line) (sym n) ∙ filled_line spans line (omega arith) (λ i b. v.filled i (omega arith))

@@ -8,17 +8,17 @@ use mathlib.Core.Bool.{cond}
 use lib.ListN.{length, take, drop, take-append-drop, get_or-append}
 use lib.Seq.{length_front, length-take-le}
 use Rattle.profile.specs.Line.{number_at}
-use Rattle.display.specs.Display.{Fault, ◌at◌, by_number, refusal_number}
-use Rattle.display.specs.declared.Refusal.{Refusal}
-use Rattle.display.proofs.Answers.{at_zero, above_zero, refusal_above}
+use Rattle.display.specs.Display.{Fault, ◌at◌, by_number}
+use Rattle.display.proofs.Answers.{at_zero, above_zero}
 use Rattle.tape.specs.Answers.{most_blocks}
 use Rattle.tape.specs.Tape.{records_in}
 use Rattle.tapeplan.specs.Planned.{SurveyedTape, WholeTape, most_junctions, plan_fault, planned_means, tape_plan, whole_fault, whole_refusal}
 use Rattle.tapeplan.specs.Sheet.{over, sheet_size}
-use Rattle.tapeplan.specs.declared.TapePlanned.{TapePlanned}
-use Rattle.tapeplan.specs.declared.TapePlanned.TheVariants.{Planned, Refused}
+use Rattle.std.specs.Prelude.{⊤, Result, Ok}
+use Rattle.display.specs.declared.RefusedAt.{RefusedAt}
 use Rattle.tapeplan.proofs.Answered.{whole_faultless, whole_passed}
 use Rattle.tapeplan.proofs.Plans.{accepted_junctions, accepted_records}
+use Rattle.tapeplan.specs.declared.Measured.{Measured}
 
 -- a list over the beginning of another, which keeps its length
 over_length : (from to : List ℕ) → length from ≤ length to → length (over from to) ≡ length to
@@ -73,7 +73,7 @@ module _ (s loaded : List ℕ) where
     pub lent_length : length (take n before) ≡ n
     lent_length = length-take-le n before (omega arith)
 
-    pub whole_planned : {answer : TapePlanned} {work work' planned : List ℕ} → length work' ≡ sheet_size → SurveyedTape s loaded work work' (take n before) planned answer
+    pub whole_planned : {answer : Result ⊤ RefusedAt} {work work' : List Measured} {planned : List ℕ} → length work' ≡ sheet_size → SurveyedTape s loaded work work' (take n before) planned answer
         → WholeTape s loaded work work' before (planned ++ drop n before) answer
     whole_planned {work'} {planned} room r =
         let same : plan_fault s loaded (length (take n before)) ≡ whole_fault s loaded = ap (plan_fault s loaded) (lent_length ∙ count) ∙ fault_same in
@@ -88,20 +88,6 @@ module _ (s loaded : List ℕ) where
           later = λ z. (r.measured z).later;
         }
 
-  -- a tape that its checks refuse leaves the list, and a sheet that nothing was stored in
-  pub whole_refused : (r : Refusal) (p : ℕ) {work before : List ℕ} → whole_fault s loaded ≡ refusal_number r at p → length work ≡ sheet_size
-      → WholeTape s loaded work work before before (Refused r p)
-  whole_refused r p {before} e room =
-      let above : 0 < (whole_fault s loaded).number = rw e (refusal_above r) in
-      record {
-        fault = sym e;
-        sized = refl;
-        list = sym (above_zero (over (tape_plan s loaded) before) before above);
-        room = room;
-        rows = λ z. absurd (omega arith);
-        later = λ z i h. refl;
-      }
-
 -- the plan is at the beginning of such a list
 pub plan_front : (s loaded before : List ℕ) {after : List ℕ} → whole_refusal s loaded ≡ 0 → after ≡ by_number (whole_refusal s loaded) (over (tape_plan s loaded) before) before
     → (k : ℕ) → k ≤ records_in s → number_at after k ≡ number_at (tape_plan s loaded) k
@@ -110,7 +96,7 @@ plan_front s loaded before passed e k h =
     ∙ get_or-append (tape_plan s loaded) (drop (length (tape_plan s loaded)) before) 0 k (omega (arith, accepted_junctions s loaded (whole_passed s loaded passed).0))
 
 -- A tape that is planned so has passed its checks, its plan is at the beginning, and it has no more records than any tape.
-module _ {s loaded work work' before after : List ℕ} {r : TapePlanned} (w : WholeTape s loaded work work' before after r) (is : r ≡ Planned) where
+module _ {s loaded : List ℕ} {work work' : List Measured} {before after : List ℕ} {r : Result ⊤ RefusedAt} (w : WholeTape s loaded work work' before after r) (is : r ≡ Ok tt) where
   pub planned_passed : whole_refusal s loaded ≡ 0
   planned_passed = ap (λ (f : Fault). f.number) (sym w.fault ∙ ap planned_means is)
 

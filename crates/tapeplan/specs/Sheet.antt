@@ -1,6 +1,5 @@
--- The sheet of a survey: what is measured of each block, as a row of numbers in a list.
-use Rattle.std.specs.Prelude.{◌≡◌, List, ◌++◌, ℕ, zero, suc, ◌+◌, ◌*◌, ◌/◌, ◌<◌, ◌≤◌, length, drop}
-use Rattle.profile.specs.Line.{number_at}
+-- The sheet of a survey: what is measured of each block, a row for each.
+use Rattle.std.specs.Prelude.{◌≡◌, List, ◌++◌, ℕ, zero, suc, ◌+◌, ◌<◌, ◌≤◌, length, get_or, drop}
 use Rattle.machine.specs.Caps.{corner_between}
 use Rattle.machine.specs.Numbers.{numbers_of, square_of}
 use Rattle.machine.specs.declared.Machine.{Machine}
@@ -8,32 +7,19 @@ use Rattle.tape.specs.Answers.{most_blocks}
 use Rattle.tape.specs.Tape.{record_at}
 use Rattle.tapeplan.specs.declared.Measured.{Measured}
 
--- numbers of a row: mark, length, acceleration, reach, cap, v squared, and the corner cap where the block begins
-abbrev pub row_size : ℕ
-row_size = 7
-
--- numbers of a sheet with a row for each block of the longest tape
+-- rows of a sheet with one for each block of the longest tape
 abbrev pub sheet_size : ℕ
-sheet_size = row_size * most_blocks
+sheet_size = most_blocks
 
 -- how many rows a sheet has, and what row k says
-abbrev pub rows_in : List ℕ → ℕ
-rows_in sheet = length sheet / row_size
+abbrev pub rows_in : List Measured → ℕ
+rows_in sheet = length sheet
 
-abbrev pub measured_at : List ℕ → (k : ℕ) → Measured
-measured_at sheet k =
-    record {
-      mark = number_at sheet (row_size * k);
-      numbers =
-          record {
-            length = number_at sheet (row_size * k + 1);
-            accel = number_at sheet (row_size * k + 2);
-            reach = number_at sheet (row_size * k + 3);
-            cap = number_at sheet (row_size * k + 4);
-          };
-      square = number_at sheet (row_size * k + 5);
-      corner = number_at sheet (row_size * k + 6);
-    }
+abbrev pub no_row : Measured
+no_row = record { mark = 0; numbers = record { length = 0; accel = 0; reach = 0; cap = 0 }; square = 0; corner = 0 }
+
+abbrev pub measured_at : List Measured → (k : ℕ) → Measured
+measured_at sheet k = get_or sheet k no_row
 
 -- the corner cap where block k of a tape begins, as a number beside the block caps of that junction; 0 for the first block, before which there is none
 unfoldable pub corner_at : Machine → (s : List ℕ) (k : ℕ) → ℕ
@@ -50,17 +36,17 @@ measured_of m s k =
       corner = corner_at m s k;
     }
 
--- the first k blocks of a tape are in the sheet, as far as it has rows, and the numbers after their rows are what they were before
-pub record Measures (m : Machine) (s before sheet : List ℕ) (k : ℕ) : Type 0 where
+-- the first k blocks of a tape are in the sheet, as far as it has rows, and the rows after them are what they were before
+pub record Measures (m : Machine) (s : List ℕ) (before sheet : List Measured) (k : ℕ) : Type 0 where
   pub rows : (i : ℕ) → i < k → i < rows_in sheet → measured_at sheet i ≡ measured_of m s i
-  pub later : (i : ℕ) → row_size * k ≤ i → number_at sheet i ≡ number_at before i
+  pub later : (i : ℕ) → k ≤ i → measured_at sheet i ≡ measured_at before i
 
--- row k is stored if the sheet has one, and all other numbers stay
-pub record Keeps (before : List ℕ) (k : ℕ) (row : Measured) (after : List ℕ) : Type 0 where
+-- row k is stored if the sheet has one, and all other rows stay
+pub record Keeps (before : List Measured) (k : ℕ) (row : Measured) (after : List Measured) : Type 0 where
   pub sized : length after ≡ length before
   pub kept : k < rows_in before → measured_at after k ≡ row
   pub others : (i : ℕ) → i < k → measured_at after i ≡ measured_at before i
-  pub later : (i : ℕ) → row_size * (k + 1) ≤ i → number_at after i ≡ number_at before i
+  pub later : (i : ℕ) → k + 1 ≤ i → measured_at after i ≡ measured_at before i
 
 -- a list over the beginning of another
 abbrev pub over : (from to : List ℕ) → List ℕ

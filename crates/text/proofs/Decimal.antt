@@ -86,6 +86,10 @@ length_below (suc k) n h =
     by_ten n (λ l. omega (arith, length_one n l))
     (λ l. omega (arith, length_more n l, length_below k (n / 10) (omega (arith, pow-suc 10 (suc k)))))
 
+-- From the k-th power of ten on there are more than k.
+pub length_power : (k n : ℕ) → 10 ^ k ≤ n → n < 10 * 10 ^ k → length (decimal n) ≡ k + 1
+length_power k n h l = omega (arith, length_last k n h, length_positive (n / 10 ^ k), length_below k n (omega (arith, pow-suc 10 k)))
+
 -- A number of 64 bits has at most 20 digits.
 pub length_word : (n : ℕ) → n < 2 ^ 64 → length (decimal n) ≤ 20
 length_word n h = length_below 19 n (omega arith)

@@ -1,11 +1,11 @@
 -- Spaced numbers, lines and rows as they are stored, and how long they are. From the laws of decimals and of texts stored.
 use mathlib.Core.Path.{◌≡◌, refl, ◌∙◌}
-use Prim.Native.Nat.{ℕ, zero, suc, ◌+◌, ◌-◌, ◌*◌, ◌^◌, ◌≤◌, ◌<◌}
+use Prim.Native.Nat.{ℕ, zero, suc, ◌+◌, ◌*◌, ◌^◌, ◌≤◌, ◌<◌}
 use native.Mathlib.Omega.{arith}
 use native.Mathlib.Numerals.{add-one}
 use mathlib.Core.List.{List, ◌∷◌, ◌++◌, append-nil, []}
-use lib.ListN.{length, get_or, take, drop, set, length-append}
-use lib.Seq.{take_all, drop-cons, lt-length-set}
+use lib.ListN.{length, get_or, drop, set, length-append}
+use lib.Seq.{drop-cons, lt-length-set}
 use Rattle.text.specs.Store.{put, Stored}
 use Rattle.text.specs.Text.{space, line_feed, decimal, spaced, line, named, row, named_row, refused_at, refused_words, refused_named}
 use Rattle.text.proofs.Decimal.{length_word}
@@ -38,28 +38,20 @@ pub length_named : (words numbers name : List ℕ)
 unfolding named
 length_named words numbers name = simp length-append (omega arith)
 
--- A row is a line feed alone, or a line whose words are its first number.
+-- A name makes a line longer by itself and a space.
+pub named_line : (words numbers name : List ℕ) → length (named words numbers name) ≡ length (line words numbers) + 1 + length name
+named_line words numbers name = omega (arith, length_line words numbers, length_named words numbers name)
+
+-- A row with no number is a line feed alone, behind the name where there is one.
 pub row_none : (numbers : List ℕ) → length numbers ≡ 0 → row numbers ≡ line_feed ∷ []
 unfolding row
 row_none [] e = refl
 row_none (n ∷ numbers) e = absurd (omega arith)
 
-pub row_some : (numbers : List ℕ) → 0 < length numbers
-    → row numbers ≡ line (decimal (get_or numbers 0 0)) (take (length numbers - 1) (drop 1 numbers))
-unfolding row
-row_some [] h = absurd (omega arith)
-row_some (n ∷ numbers) h = rw (take_all (length (n ∷ numbers) - 1) numbers (omega arith))
-
 pub named_row_none : (numbers name : List ℕ) → length numbers ≡ 0 → named_row numbers name ≡ line name numbers
 unfolding named_row line spaced
 named_row_none [] name e = rw (append-nil name)
 named_row_none (n ∷ numbers) name e = absurd (omega arith)
-
-pub named_row_some : (numbers name : List ℕ) → 0 < length numbers
-    → named_row numbers name ≡ named (decimal (get_or numbers 0 0)) (take (length numbers - 1) (drop 1 numbers)) name
-unfolding named_row
-named_row_some [] name h = absurd (omega arith)
-named_row_some (n ∷ numbers) name h = rw (take_all (length (n ∷ numbers) - 1) numbers (omega arith))
 
 -- Numbers of 64 bits take at most 21 bytes each, with the space before them.
 pub spaced_most : (numbers : List ℕ) → ((i : ℕ) → get_or numbers i 0 < 2 ^ 64) → length (spaced numbers) ≤ 21 * length numbers

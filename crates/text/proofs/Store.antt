@@ -1,17 +1,17 @@
 -- Texts stored in a list, one behind the other. From the laws of lists.
 use mathlib.Core.Path.{◌≡◌, refl, sym, ap, ◌∙◌}
-use Prim.Native.Nat.{ℕ, suc, ◌+◌, ◌≤◌, ◌<◌}
+use Prim.Native.Nat.{ℕ, ◌+◌, ◌≤◌, ◌<◌}
 use native.Mathlib.Omega.{arith}
 use mathlib.Core.Bool.{Bool, true, false, cond}
 use mathlib.Core.List.{List, ◌∷◌, ◌++◌, append_assoc, append-nil, []}
 use lib.Dec.{leb}
-use lib.ListN.{length, get_or, take, drop, set, length-append, length-drop, take-append-drop}
-use lib.Seq.{length-take-le, take_at, drop_at, drop-drop, drop-cons, set_split}
+use lib.ListN.{length, take, drop, set, length-append, length-drop, take-append-drop}
+use lib.Seq.{length-take-le, take_at, drop_at, drop-drop, set_split}
 use native.Mathlib.Nat.{add_assoc, add-zero}
 use native.Mathlib.Numerals.{add-one}
 use borrow.Author.Tests.{le-leb, lt-leb, leb-true, leb-false}
-use Rattle.text.specs.declared.Put.{Put}
-use Rattle.text.specs.declared.Put.TheVariants.{At, NoRoom}
+use Rattle.std.specs.Prelude.{Option, Some, None}
+use borrow.Rule.Slice.PartMut.{put_mid}
 use Rattle.text.specs.Store.{put, place_behind, Stored, Answered}
 
 -- Storing no byte, and one.
@@ -41,12 +41,6 @@ put_next s at t u l =
 -- A byte, and the text behind it.
 pub put_cons : (s : List ℕ) (at b : ℕ) (t : List ℕ) → at < length s → put (set s at b) (at + 1) t ≡ put s at (b ∷ t)
 put_cons s at b t l = rw (put_one s at b l) (put_next s at (b ∷ []) t (omega arith))
-
--- One byte of a text, as a loop stores them: the rest leads to the same list.
-pub bytes_turn : (s : List ℕ) (at : ℕ) (text : List ℕ) (i : ℕ) → at + i < length s → i < length text
-    → put (set s (at + i) (get_or text i 0)) (at + (i + 1)) (drop (i + 1) text) ≡ put s (at + i) (drop i text)
-bytes_turn s at text i l h =
-    rw (drop-cons text i 0 h, ← add_assoc at i 1, add-one i) (put_cons s (at + i) (get_or text i 0) (drop (suc i) text) l)
 
 -- What stands before a text, where it is, and behind it; and the whole is as long as it was.
 module _ (s : List ℕ) (at : ℕ) (t : List ℕ) (l : at + length t ≤ length s) where
@@ -81,6 +75,11 @@ stored_next {s} {t} {u} {at} r q l =
       bytes = q.bytes ∙ rw (r.bytes, r.next) (put_next s at t u l);
       next = rw (q.next, r.next, length-append t u) (omega arith);
     }
+
+-- A text that is copied to its place is stored.
+pub stored_copy : (s : List ℕ) (at k : ℕ) {t now : List ℕ} → now ≡ t → k ≡ length t → Stored s at t (at + length t) (put_mid at k s now)
+unfolding put
+stored_copy s at k {t} e f = record { bytes = rw (e, f, drop-drop (length t) at s) (simp append_assoc); next = refl }
 
 pub stored_none : {s : List ℕ} {at : ℕ} → Stored s at [] at s
 stored_none {s} {at} = record { bytes = sym (put_none s at); next = sym (add-zero at) }
@@ -124,38 +123,38 @@ same_test a b c d f g = by (leb a b) refl
 
 -- The two answers.
 pub stored : (s : List ℕ) (at : ℕ) (text : List ℕ) {end : ℕ} {after : List ℕ} → at + length text ≤ length s → Stored s at text end after
-    → Answered s at text (At end) after
-stored s at text h r = record { bytes = rw (le-leb _ _ h) r.bytes; next = rw (le-leb _ _ h) (ap At r.next) }
+    → Answered s at text (Some end) after
+stored s at text h r = record { bytes = rw (le-leb _ _ h) r.bytes; next = rw (le-leb _ _ h) (ap Some r.next) }
 
-pub no_room : (s : List ℕ) (at : ℕ) (text : List ℕ) → length s < at + length text → Answered s at text NoRoom s
+pub no_room : (s : List ℕ) (at : ℕ) (text : List ℕ) → length s < at + length text → Answered s at text None s
 no_room s at text h = record { bytes = rw (lt-leb _ _ h); next = rw (lt-leb _ _ h) }
 
 -- A text that has room is stored, and the place behind it answered.
-pub stored_with_room : {s text after : List ℕ} {at end : ℕ} {answer : Put} → at + length text ≤ length s → Answered s at text answer after → end ≡ place_behind at answer
+pub stored_with_room : {s text after : List ℕ} {at end : ℕ} {answer : Option ℕ} → at + length text ≤ length s → Answered s at text answer after → end ≡ place_behind at answer
     → Stored s at text end after
 stored_with_room {s} {text} {at} h r e =
     let fits : leb (at + length text) (length s) ≡ true = le-leb _ _ h in
     record {
       bytes = r.bytes ∙ ap (λ (b : Bool). cond b (put s at text) s) fits;
-      next = e ∙ ap (place_behind at) r.next ∙ ap (λ (b : Bool). place_behind at (cond b (At (at + length text)) NoRoom)) fits;
+      next = e ∙ ap (place_behind at) r.next ∙ ap (λ (b : Bool). place_behind at (cond b (Some (at + length text)) None)) fits;
     }
 
 -- What an answer says: the text stands there.
-pub was_stored : {s text after : List ℕ} {at end : ℕ} {answer : Put} → answer ≡ At end → Answered s at text answer after
+pub was_stored : {s text after : List ℕ} {at end : ℕ} {answer : Option ℕ} → answer ≡ Some end → Answered s at text answer after
     → (at + length text ≤ length s) × Stored s at text end after
 was_stored {s} {text} {after} {at} {end} {answer} is r = by (leb (at + length text) (length s)) refl r.bytes r.next
   where
     by : (b : Bool) → leb (at + length text) (length s) ≡ b → after ≡ cond b (put s at text) s
-        → answer ≡ cond b (At (at + length text)) NoRoom → (at + length text ≤ length s) × Stored s at text end after
+        → answer ≡ cond b (Some (at + length text)) None → (at + length text ≤ length s) × Stored s at text end after
     by true e f g = (leb-true _ _ e, record { bytes = f; next = cc })
     by false e f g = let z : ◌≡◌ {A = ℕ} 0 1 = cc in absurd (omega arith)
 
 -- The place behind a text lies in its list, whether it was stored or not.
-pub behind_within : {s text after : List ℕ} {at end : ℕ} {answer : Put} → at ≤ length s → Answered s at text answer after → end ≡ place_behind at answer
+pub behind_within : {s text after : List ℕ} {at end : ℕ} {answer : Option ℕ} → at ≤ length s → Answered s at text answer after → end ≡ place_behind at answer
     → end ≤ length after
 behind_within {s} {text} {after} {at} {end} l r e = by (leb (at + length text) (length s)) refl r.bytes (e ∙ ap (place_behind at) r.next)
   where
     by : (b : Bool) → leb (at + length text) (length s) ≡ b → after ≡ cond b (put s at text) s
-        → end ≡ place_behind at (cond b (At (at + length text)) NoRoom) → end ≤ length after
+        → end ≡ place_behind at (cond b (Some (at + length text)) None) → end ≤ length after
     by true f g h = rw (g, length_put s at text (leb-true _ _ f)) (omega (arith, leb-true (at + length text) (length s) f))
     by false f g h = rw g (omega arith)

@@ -1,42 +1,31 @@
 // The text of a listing and of a replay: numbers in decimal, words, and lines of them, stored in bytes that a caller lends.
-// Nothing here knows what a number means. A text is stored whole, or not at all where it has too little room.
+// Nothing here knows what a number means. A text is stored whole, or not at all where it has too little room: each `put_` function
+// answers the place behind the text, or None. The list and the place stand side by side: in a struct that borrows the list, each caller
+// would make and take apart one more value for each line.
 #![tactic(auto)]
 
-ghost use Rattle.std.specs.Prelude.{◌≡◌, ◌+◌, ◌<◌, ◌≤◌, leb, length, ◌++◌};
+ghost use Rattle.std.specs.Prelude.{◌≡◌, ◌+◌, ◌*◌, ◌<◌, ◌≤◌, leb, length, ◌++◌};
 ghost use Rattle.text.specs.Text.{decimal, last_digits, Digits, spaced, line, named, row, named_row, header, refused_words, refused_at, refused_named, refused, added, held, plan};
 ghost use Rattle.text.specs.Store.{Stored, Answered, place_behind};
 
 // Bytes that a number and the space before it take at most.
 const MOST: usize = 21;
 
-// The place behind a text that was stored, or that there was too little room.
-#[derive(Clone, Copy)]
-pub enum Put {
-    At(usize),
-    NoRoom,
-}
-
 // The place behind a text that was stored from place `at` on, or `at` where it had too little room.
-pub fn behind(answer: Put, at: usize) -> usize
+pub fn behind(answer: Option<usize>, at: usize) -> usize
     ensures { result ≡ place_behind at answer }
 {
-    match answer {
-        Put::At(end) => end,
-        Put::NoRoom => at,
-    }
+    answer.unwrap_or(at)
 }
 
 // How many digits n has.
 fn digits(n: u64) -> usize
     ensures { Digits n result }
 {
-    let mut count: usize = 1;
-    let mut rest = n;
-    while 10 <= rest {
-        rest = rest / 10;
-        count += 1;
+    match n.checked_ilog10() {
+        Some(power) => power as usize + 1,
+        None => 1,
     }
-    count
 }
 
 // Stores the last three digits of n, zeros in front among them.
@@ -51,7 +40,8 @@ fn store_group(out: &mut [u8], at: usize, n: u64) -> usize
     at + 3
 }
 
-// Stores a number below 1,000 in decimal.
+// Stores a number below 1,000 in decimal. That there is room is a clause of this function and the next two and no type: it is of the
+// list, the place and the number together.
 fn store_leading(out: &mut [u8], at: usize, n: u64) -> usize
     requires { (n < 1_000) × (at + length (decimal n) ≤ length out.old) }
     ensures { Stored out.old at (decimal n) result out.new }
@@ -80,7 +70,8 @@ fn store_short(out: &mut [u8], at: usize, n: u64) -> usize
     store_group(out, end, n)
 }
 
-// Stores n in decimal: its millions, and the last six digits.
+// By hand and not by `write!`: the promise is every byte and the place behind them, and the digits are those of the definition
+// `decimal`. Stores n in decimal: its millions, and the last six digits.
 fn store_number(out: &mut [u8], at: usize, n: u64) -> usize
     requires { at + length (decimal n) ≤ length out.old }
     ensures { Stored out.old at (decimal n) result out.new }
@@ -99,12 +90,9 @@ fn store_bytes(out: &mut [u8], at: usize, text: &[u8]) -> usize
     requires { at + length text.now ≤ length out.old }
     ensures { Stored out.old at text.now result out.new }
 {
-    let mut i: usize = 0;
-    while i < text.len() {
-        out[at + i] = text[i];
-        i += 1;
-    }
-    at + i
+    let end = at + text.len();
+    out[at..end].copy_from_slice(text);
+    end
 }
 
 // Stores numbers in decimal, each after one space.
@@ -113,11 +101,9 @@ fn store_spaced(out: &mut [u8], at: usize, numbers: &[u64]) -> usize
     ensures { Stored out.old at (spaced numbers.now) result out.new }
 {
     let mut end = at;
-    let mut i: usize = 0;
-    while i < numbers.len() {
+    for &n in numbers {
         out[end] = b' ';
-        end = store_number(out, end + 1, numbers[i]);
-        i += 1;
+        end = store_number(out, end + 1, n);
     }
     end
 }
@@ -130,14 +116,12 @@ fn spaced_fits(numbers: &[u64], room: usize) -> bool
         return true;
     }
     let mut left = room;
-    let mut i: usize = 0;
-    while i < numbers.len() {
-        let count = digits(numbers[i]);
+    for &n in numbers {
+        let count = digits(n);
         if left <= count {
             return false;
         }
         left -= count + 1;
-        i += 1;
     }
     true
 }
@@ -184,52 +168,56 @@ fn store_named(out: &mut [u8], at: usize, words: &[u8], numbers: &[u64], name: &
 }
 
 // Stores words, the numbers each after one space, and a line feed.
-pub fn put_line(out: &mut [u8], at: usize, words: &[u8], numbers: &[u64]) -> Put
+pub fn put_line(out: &mut [u8], at: usize, words: &[u8], numbers: &[u64]) -> Option<usize>
     ensures { Answered out.old at (line words.now numbers.now) result out.new }
 {
-    if out.len() < at {
-        return Put::NoRoom;
-    }
-    if line_fits(words, numbers, out.len() - at) {
-        Put::At(store_line(out, at, words, numbers))
+    let room = out.len().checked_sub(at)?;
+    if line_fits(words, numbers, room) {
+        Some(store_line(out, at, words, numbers))
     } else {
-        Put::NoRoom
+        None
     }
 }
 
 // Stores words, the numbers each after one space, a name after one space, and a line feed. What a line has room in, less the name
 // and its space, is room for its words and numbers.
-pub fn put_named(out: &mut [u8], at: usize, words: &[u8], numbers: &[u64], name: &[u8]) -> Put
+pub fn put_named(
+    out: &mut [u8],
+    at: usize,
+    words: &[u8],
+    numbers: &[u64],
+    name: &[u8],
+) -> Option<usize>
     ensures { Answered out.old at (named words.now numbers.now name.now) result out.new }
 {
-    if out.len() < at {
-        return Put::NoRoom;
+    let room = out.len().checked_sub(at)?;
+    if room <= name.len() {
+        return None;
     }
-    if out.len() - at <= name.len() {
-        return Put::NoRoom;
-    }
-    if line_fits(words, numbers, out.len() - at - name.len() - 1) {
-        Put::At(store_named(out, at, words, numbers, name))
+    if line_fits(words, numbers, room - name.len() - 1) {
+        Some(store_named(out, at, words, numbers, name))
     } else {
-        Put::NoRoom
+        None
     }
 }
 
 // Stores the bytes of a text.
-pub fn put_bytes(out: &mut [u8], at: usize, text: &[u8]) -> Put
+pub fn put_bytes(out: &mut [u8], at: usize, text: &[u8]) -> Option<usize>
     ensures { Answered out.old at text.now result out.new }
 {
-    if out.len() < at {
-        return Put::NoRoom;
+    let room = out.len().checked_sub(at)?;
+    if room < text.len() {
+        return None;
     }
-    if out.len() - at < text.len() {
-        return Put::NoRoom;
-    }
-    Put::At(store_bytes(out, at, text))
+    Some(store_bytes(out, at, text))
 }
 
+// Lines that begin with one word: `put_line` is the general function, and each of these writes the word of its contract once.
+// A line that ends with a name has functions of its own, since definitions and contracts have (`row`, `named_row`): over an Option
+// of a name each contract would join two of them by cases.
+
 // Stores the line `mark length accel entry peak exit up cruise down`.
-pub fn put_header(out: &mut [u8], at: usize) -> Put
+pub fn put_header(out: &mut [u8], at: usize) -> Option<usize>
     ensures { Answered out.old at header result out.new }
 {
     put_bytes(
@@ -240,62 +228,60 @@ pub fn put_header(out: &mut [u8], at: usize) -> Put
 }
 
 // Stores the line `added`.
-pub fn put_added(out: &mut [u8], at: usize) -> Put
+pub fn put_added(out: &mut [u8], at: usize) -> Option<usize>
     ensures { Answered out.old at added result out.new }
 {
     put_bytes(out, at, b"added\n")
 }
 
 // Stores the line `refused`, the number.
-pub fn put_refused(out: &mut [u8], at: usize, number: u64) -> Put
+pub fn put_refused(out: &mut [u8], at: usize, number: u64) -> Option<usize>
     ensures { Answered out.old at (refused number) result out.new }
 {
-    let numbers = [number];
-    put_line(out, at, b"refused", &numbers)
+    put_line(out, at, b"refused", &[number])
 }
 
 // Stores the line `held`, the number.
-pub fn put_held(out: &mut [u8], at: usize, number: u64) -> Put
+pub fn put_held(out: &mut [u8], at: usize, number: u64) -> Option<usize>
     ensures { Answered out.old at (held number) result out.new }
 {
-    let numbers = [number];
-    put_line(out, at, b"held", &numbers)
+    put_line(out, at, b"held", &[number])
 }
 
 // Stores the line `plan`, the numbers.
-pub fn put_plan(out: &mut [u8], at: usize, numbers: &[u64]) -> Put
+pub fn put_plan(out: &mut [u8], at: usize, numbers: &[u64]) -> Option<usize>
     ensures { Answered out.old at (plan numbers.now) result out.new }
 {
     put_line(out, at, b"plan", numbers)
 }
 
-// Stores the numbers parted by one space, and a line feed.
-pub fn put_row(out: &mut [u8], at: usize, numbers: &[u64]) -> Put
-    ensures { Answered out.old at (row numbers.now) result out.new }
+// Stores the numbers parted by one space, and a line feed: at most `MOST` bytes a number, and one.
+pub fn put_row(out: &mut [u8], at: usize, numbers: &[u64]) -> Option<usize>
+    ensures answered { Answered out.old at (row numbers.now) result out.new }
+    ensures short { length (row numbers.now) ≤ 21 * length numbers.now + 1 }
 {
-    if numbers.len() == 0 {
+    let Some((&first, rest)) = numbers.split_first() else {
         return put_bytes(out, at, b"\n");
-    }
-    let mut first = [0u8; 20];
-    let end = store_number(&mut first, 0, numbers[0]);
-    put_line(out, at, &first[..end], &numbers[1..])
+    };
+    let mut words = [0u8; 20];
+    let end = store_number(&mut words, 0, first);
+    put_line(out, at, &words[..end], rest)
 }
 
 // Stores the numbers and a name, parted by one space, and a line feed.
-pub fn put_named_row(out: &mut [u8], at: usize, numbers: &[u64], name: &[u8]) -> Put
+pub fn put_named_row(out: &mut [u8], at: usize, numbers: &[u64], name: &[u8]) -> Option<usize>
     ensures { Answered out.old at (named_row numbers.now name.now) result out.new }
 {
-    if numbers.len() == 0 {
+    let Some((&first, rest)) = numbers.split_first() else {
         return put_line(out, at, name, numbers);
-    }
-    let mut first = [0u8; 20];
-    let end = store_number(&mut first, 0, numbers[0]);
-    put_named(out, at, &first[..end], &numbers[1..], name)
+    };
+    let mut words = [0u8; 20];
+    let end = store_number(&mut words, 0, first);
+    put_named(out, at, &words[..end], rest, name)
 }
 
 // Stores `refused`, the number, `at`: at most 31 bytes.
-fn store_refused(out: &mut [u8], number: u64) -> usize
-    requires { length out.old ≡ 31 }
+fn store_refused(out: &mut [u8; 31], number: u64) -> usize
     ensures { Stored out.old 0 (refused_words number) result out.new }
 {
     let before = store_bytes(out, 0, b"refused ");
@@ -304,21 +290,25 @@ fn store_refused(out: &mut [u8], number: u64) -> usize
 }
 
 // Stores the line `refused`, the number, `at`, the place.
-pub fn put_refused_at(out: &mut [u8], at: usize, number: u64, place: u64) -> Put
+pub fn put_refused_at(out: &mut [u8], at: usize, number: u64, place: u64) -> Option<usize>
     ensures { Answered out.old at (refused_at number place) result out.new }
 {
     let mut words = [0u8; 31];
     let end = store_refused(&mut words, number);
-    let places = [place];
-    put_line(out, at, &words[..end], &places)
+    put_line(out, at, &words[..end], &[place])
 }
 
 // Stores the line `refused`, the number, `at`, the place, a name.
-pub fn put_refused_named(out: &mut [u8], at: usize, number: u64, place: u64, name: &[u8]) -> Put
+pub fn put_refused_named(
+    out: &mut [u8],
+    at: usize,
+    number: u64,
+    place: u64,
+    name: &[u8],
+) -> Option<usize>
     ensures { Answered out.old at (refused_named number place name.now) result out.new }
 {
     let mut words = [0u8; 31];
     let end = store_refused(&mut words, number);
-    let places = [place];
-    put_named(out, at, &words[..end], &places, name)
+    put_named(out, at, &words[..end], &[place], name)
 }

@@ -12,29 +12,26 @@ use Rattle.words.specs.Number.{number_in}
 use Rattle.words.specs.Pieces.{Piece, word, stray, pieces_of}
 use Rattle.words.specs.Meaning.{Faulty, FirstFault, Kept, badly_formed, not_listed, outside, repeated, slot_by}
 use Rattle.words.specs.Words.{Scan, Words, filled, no_words, scan, slot_of, behind_words, with_number, with_pieces, with_slot, with_word, words_of}
-use Rattle.words.specs.declared.Number.{Number}
-use Rattle.words.specs.declared.Number.TheVariants.{Of, Bad}
-use Rattle.words.specs.declared.Slot.{Slot}
-use Rattle.words.specs.declared.Slot.TheVariants.{At, Unlisted}
 use Rattle.words.proofs.WordReads.{next, pieces_kept, pieces_on, pieces_once, pieces_right, unlisted}
+use Rattle.std.specs.Prelude.{Option, Some, None}
 
 -- A word by its number, and by its slot.
 module _ (c : ℕ) (n : List ℕ) (rest : List Piece) (w : Words) where
-  with_number_lem : {m : Number} → number_in n ≡ m → with_pieces (word c n ∷ rest) w ≡ next rest w (with_number c m w)
+  with_number_lem : {m : Option ℤ} → number_in n ≡ m → with_pieces (word c n ∷ rest) w ≡ next rest w (with_number c m w)
   unfolding with_pieces with_word
-  with_number_lem q = ap (λ (m : Number). next rest w (with_number c m w)) q
+  with_number_lem q = ap (λ (m : Option ℤ). next rest w (with_number c m w)) q
 
-  with_slot_lem : {z : ℤ} {s : Slot} → number_in n ≡ Of z → slot_of c z ≡ s → with_pieces (word c n ∷ rest) w ≡ next rest w (with_slot s z w)
-  with_slot_lem {z} q r = with_number_lem q ∙ ap (λ (s : Slot). next rest w (with_slot s z w)) r
+  with_slot_lem : {z : ℤ} {s : Option ℕ} → number_in n ≡ Some z → slot_of c z ≡ s → with_pieces (word c n ∷ rest) w ≡ next rest w (with_slot s z w)
+  with_slot_lem {z} q r = with_number_lem q ∙ ap (λ (s : Option ℕ). next rest w (with_slot s z w)) r
 
-  with_stands : (z : ℤ) (k : ℕ) {t : Bool} → number_in n ≡ Of z → slot_of c z ≡ At k → get_or w.stands k false ≡ t
+  with_stands : (z : ℤ) (k : ℕ) {t : Bool} → number_in n ≡ Some z → slot_of c z ≡ Some k → get_or w.stands k false ≡ t
       → with_pieces (word c n ∷ rest) w ≡ next rest w (cond t (refused 12) (given (filled k z w)))
   with_stands z k q r s = with_slot_lem q r ∙ ap (λ (t : Bool). next rest w (cond t (refused 12) (given (filled k z w)))) s
 
   -- one whose slot stands already
-  again : (k : ℕ) (m : Number) → number_in n ≡ m → slot_by c m ≡ At k → get_or w.stands k false ≡ true → with_pieces (word c n ∷ rest) w ≡ scan 12 w
-  again k Bad q r s = absurd (unlisted r)
-  again k (Of z) q r s = with_stands z k q r s
+  again : (k : ℕ) (m : Option ℤ) → number_in n ≡ m → slot_by c m ≡ Some k → get_or w.stands k false ≡ true → with_pieces (word c n ∷ rest) w ≡ scan 12 w
+  again k None q r s = absurd (unlisted r)
+  again k (Some z) q r s = with_stands z k q r s
 
 -- A faulty piece behind the words of others.
 faulty_is : (front rest : List Piece) (p : Piece) (n : ℕ) (w : Words) → Kept front w → Faulty front p n → (with_pieces (p ∷ rest) w).number ≡ n
@@ -67,7 +64,7 @@ search_on front (word c s ∷ rest) n right e = by_number_lem (number_in s) refl
     More : Type 0
     More = (f : List Piece) → (with_pieces f no_words).number ≡ 0 → (with_pieces rest (with_pieces f no_words).words).number ≡ suc n → FirstFault (f ++ rest) (suc n)
 
-    by_stands : (z : ℤ) (k : ℕ) (t : Bool) → number_in s ≡ Of z → slot_of c z ≡ At k → get_or w.stands k false ≡ t → More
+    by_stands : (z : ℤ) (k : ℕ) (t : Bool) → number_in s ≡ Some z → slot_of c z ≡ Some k → get_or w.stands k false ≡ t → More
         → FirstFault (front ++ word c s ∷ rest) (suc n)
     by_stands z k true q r t more =
         let other = (pieces_kept front right).only k t in
@@ -80,13 +77,13 @@ search_on front (word c s ∷ rest) n right e = by_number_lem (number_in s) refl
         (more (front ++ word c s ∷ []) (ap (λ (r : Scan). r.number) one)
         (ap (λ (r : Scan). (with_pieces rest r.words).number) one ∙ is (with_stands c s rest w z k q r t)))
 
-    by_slot : (z : ℤ) (k : Slot) → number_in s ≡ Of z → slot_of c z ≡ k → More → FirstFault (front ++ word c s ∷ rest) (suc n)
-    by_slot z Unlisted q r more = here (not_listed q r) (is (with_slot_lem c s rest w q r))
-    by_slot z (At k) q r more = by_stands z k (get_or w.stands k false) q r refl more
+    by_slot : (z : ℤ) (k : Option ℕ) → number_in s ≡ Some z → slot_of c z ≡ k → More → FirstFault (front ++ word c s ∷ rest) (suc n)
+    by_slot z None q r more = here (not_listed q r) (is (with_slot_lem c s rest w q r))
+    by_slot z (Some k) q r more = by_stands z k (get_or w.stands k false) q r refl more
 
-    by_number_lem : (m : Number) → number_in s ≡ m → More → FirstFault (front ++ word c s ∷ rest) (suc n)
-    by_number_lem Bad q more = here (badly_formed q) (is (with_number_lem c s rest w q))
-    by_number_lem (Of z) q more = by_slot z (slot_of c z) q refl more
+    by_number_lem : (m : Option ℤ) → number_in s ≡ m → More → FirstFault (front ++ word c s ∷ rest) (suc n)
+    by_number_lem None q more = here (badly_formed q) (is (with_number_lem c s rest w q))
+    by_number_lem (Some z) q more = by_slot z (slot_of c z) q refl more
 
 -- 12: any character but a space outside a word, or a word or repetition not listed; 13: a badly formed number; the first such place on a line
 -- decides, 13 before 12 in one word.

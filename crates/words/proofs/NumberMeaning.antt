@@ -16,10 +16,10 @@ use Rattle.words.specs.Leading.{leading, behind}
 use Rattle.words.specs.Meaning.{Each, Outside, DigitsUpTo, Unsigned, whole, pointed, Numerals, signless, with_plus, with_minus}
 use Rattle.words.specs.Number.{after_sign, most_decimals, most_digits, number_in, of_decimals, parts, with_decimals}
 use Rattle.words.specs.Pieces.{digit, minus, plus, point, within}
-use Rattle.words.specs.declared.Number.TheVariants.{Of, Bad}
 use Rattle.words.proofs.LeadingLaws.{leading_behind}
 use Rattle.words.proofs.LeadingMeaning.{leading_cut, behind_cut}
 use Rattle.words.proofs.NumberLaws.{leading_digits, all_digits, decimals_are, digits_are, rest_none, rest_point, number_minus, number_plus, number_unsigned}
+use Rattle.std.specs.Prelude.{Some, None}
 
 -- Digits alone are of the kind.
 each_digit : (s : List ℕ) → OnlyDigits s → Each digit s
@@ -40,7 +40,7 @@ cut_digits negative s rest d out =
     ∙ (λ i. with_decimals negative (value (front i)) (back i))
 
 -- Behind the sign: 1 to 5 digits, and optionally a point with 1 to 4 digits, are the number of these digits in ten-thousandths.
-pub unsigned_value : (negative : Bool) (s : List ℕ) (z : ℤ) → Unsigned negative s z → after_sign negative s ≡ Of z
+pub unsigned_value : (negative : Bool) (s : List ℕ) (z : ℤ) → Unsigned negative s z → after_sign negative s ≡ Some z
 unsigned_value negative s z (whole d) =
     ap (after_sign negative) (sym (append-nil s)) ∙ cut_digits negative s [] d tt ∙ rest_none negative (value s) [] refl
 unsigned_value negative _ z (pointed {s} {decimals} d e) =
@@ -49,10 +49,10 @@ unsigned_value negative _ z (pointed {s} {decimals} d e) =
     ∙ decimals_are negative (value s) decimals e.some e.few (ap length (digits_lead decimals e.digits))
 
 -- Nothing else behind the sign is a number.
-bad_number : {z : ℤ} → Bad ≡ Of z → ⊥
+bad_number : {z : ℤ} → None ≡ Some z → ⊥
 bad_number e = let n : ◌≡◌ {A = ℕ} 0 1 = cc in omega arith
 
-decimals_only : (negative : Bool) (s rest : List ℕ) (z : ℤ) → DigitsUpTo most_digits s → of_decimals negative (value s) rest ≡ Of z
+decimals_only : (negative : Bool) (s rest : List ℕ) (z : ℤ) → DigitsUpTo most_digits s → of_decimals negative (value s) rest ≡ Some z
     → Unsigned negative (s ++ point ∷ rest) z
 unfolding of_decimals
 decimals_only negative s rest z d e = go (within 1 most_decimals (length rest) && eqb (length (leading digit rest)) (length rest)) refl e
@@ -60,7 +60,7 @@ decimals_only negative s rest z d e = go (within 1 most_decimals (length rest) &
     n : ℤ
     n = signed_by negative (value s * parts + value rest * 10 ^ (most_decimals - length rest))
 
-    go : (t : Bool) → within 1 most_decimals (length rest) && eqb (length (leading digit rest)) (length rest) ≡ t → cond t (Of n) Bad ≡ Of z
+    go : (t : Bool) → within 1 most_decimals (length rest) && eqb (length (leading digit rest)) (length rest) ≡ t → cond t (Some n) None ≡ Some z
         → Unsigned negative (s ++ point ∷ rest) z
     go true q e =
         let tests = both (within 1 most_decimals (length rest)) (eqb (length (leading digit rest)) (length rest)) q in
@@ -76,7 +76,7 @@ decimals_only negative s rest z d e = go (within 1 most_decimals (length rest) &
         subst (Unsigned negative (s ++ point ∷ rest)) same (pointed d decimals)
     go false q e = absurd (bad_number e)
 
-rest_only : (negative : Bool) (s rest : List ℕ) (z : ℤ) → DigitsUpTo most_digits s → with_decimals negative (value s) rest ≡ Of z
+rest_only : (negative : Bool) (s rest : List ℕ) (z : ℤ) → DigitsUpTo most_digits s → with_decimals negative (value s) rest ≡ Some z
     → Unsigned negative (s ++ rest) z
 unfolding with_decimals
 rest_only negative s [] z d e =
@@ -84,16 +84,16 @@ rest_only negative s [] z d e =
     subst (λ (t : List ℕ). Unsigned negative t z) (sym (append-nil s)) (subst (Unsigned negative s) same (whole d))
 rest_only negative s (b ∷ rest) z d e = go (eqb b point) refl e
   where
-    go : (t : Bool) → eqb b point ≡ t → cond t (of_decimals negative (value s) rest) Bad ≡ Of z → Unsigned negative (s ++ b ∷ rest) z
+    go : (t : Bool) → eqb b point ≡ t → cond t (of_decimals negative (value s) rest) None ≡ Some z → Unsigned negative (s ++ b ∷ rest) z
     go true q e = subst (λ (c : ℕ). Unsigned negative (s ++ c ∷ rest) z) (sym (eqb-true b point q)) (decimals_only negative s rest z d e)
     go false q e = absurd (bad_number e)
 
-pub unsigned_only : (negative : Bool) (s : List ℕ) (z : ℤ) → after_sign negative s ≡ Of z → Unsigned negative s z
+pub unsigned_only : (negative : Bool) (s : List ℕ) (z : ℤ) → after_sign negative s ≡ Some z → Unsigned negative s z
 unfolding after_sign
 unsigned_only negative s z e = go (within 1 most_digits (length (leading digit s))) refl e
   where
     go : (t : Bool) → within 1 most_digits (length (leading digit s)) ≡ t
-        → cond t (with_decimals negative (value (leading digit s)) (behind digit s)) Bad ≡ Of z → Unsigned negative s z
+        → cond t (with_decimals negative (value (leading digit s)) (behind digit s)) None ≡ Some z → Unsigned negative s z
     go true q e =
         let sizes = both (leb 1 (length (leading digit s))) (leb (length (leading digit s)) most_digits) q in
         let digits : DigitsUpTo most_digits (leading digit s) =
@@ -117,18 +117,18 @@ unsigned_first s z (whole d) = subst (λ (t : List ℕ). number_in t ≡ after_s
 unsigned_first _ z (pointed {s} {decimals} d e) = no_sign s (point ∷ decimals) d
 
 -- A number has an optional sign, 1 to 5 digits, and optionally a point with 1 to 4 digits: these numerals are their number, and no others are one.
-pub number_value : (s : List ℕ) (z : ℤ) → Numerals s z → number_in s ≡ Of z
+pub number_value : (s : List ℕ) (z : ℤ) → Numerals s z → number_in s ≡ Some z
 number_value s z (signless u) = unsigned_first s z u ∙ unsigned_value false s z u
 number_value _ z (with_plus {s} u) = number_plus (plus ∷ s) (omega arith) refl ∙ unsigned_value false s z u
 number_value _ z (with_minus {s} u) = number_minus (minus ∷ s) (omega arith) refl ∙ unsigned_value true s z u
 
-pub number_only : (s : List ℕ) (z : ℤ) → number_in s ≡ Of z → Numerals s z
+pub number_only : (s : List ℕ) (z : ℤ) → number_in s ≡ Some z → Numerals s z
 unfolding number_in
 number_only [] z e = absurd (bad_number e)
 number_only (b ∷ s) z e = go (eqb b minus) (eqb b plus) refl refl e
   where
     go : (x y : Bool) → eqb b minus ≡ x → eqb b plus ≡ y
-        → cond x (after_sign true s) (cond y (after_sign false s) (after_sign false (b ∷ s))) ≡ Of z → Numerals (b ∷ s) z
+        → cond x (after_sign true s) (cond y (after_sign false s) (after_sign false (b ∷ s))) ≡ Some z → Numerals (b ∷ s) z
     go true y p q e = subst (λ (c : ℕ). Numerals (c ∷ s) z) (sym (eqb-true b minus p)) (with_minus (unsigned_only true s z e))
     go false true p q e = subst (λ (c : ℕ). Numerals (c ∷ s) z) (sym (eqb-true b plus q)) (with_plus (unsigned_only false s z e))
     go false false p q e = signless (unsigned_only false (b ∷ s) z e)
@@ -140,11 +140,11 @@ module _ (n : ℕ) (h : n < 100_000) where
       subst (λ (k : ℕ). Unsigned negative (decimal n) (signed_by negative (k * parts))) (value_decimal n)
       (whole (record { digits = decimal_digits n; some = length_positive n; few = length_below 4 n h }))
 
-  pub number_decimal : number_in (decimal n) ≡ Of (pos (n * parts))
+  pub number_decimal : number_in (decimal n) ≡ Some (pos (n * parts))
   number_decimal = number_value (decimal n) (pos (n * parts)) (signless (decimal_unsigned false))
 
-  pub number_decimal_plus : number_in (plus ∷ decimal n) ≡ Of (pos (n * parts))
+  pub number_decimal_plus : number_in (plus ∷ decimal n) ≡ Some (pos (n * parts))
   number_decimal_plus = number_value (plus ∷ decimal n) (pos (n * parts)) (with_plus (decimal_unsigned false))
 
-  pub number_decimal_minus : number_in (minus ∷ decimal n) ≡ Of (neg_ℤ (pos (n * parts)))
+  pub number_decimal_minus : number_in (minus ∷ decimal n) ≡ Some (neg_ℤ (pos (n * parts)))
   number_decimal_minus = number_value (minus ∷ decimal n) (neg_ℤ (pos (n * parts))) (with_minus (decimal_unsigned true))

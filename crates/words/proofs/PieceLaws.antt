@@ -10,6 +10,7 @@ use lib.Dec.{leb, eqb}
 use Rattle.text.specs.Text.{space}
 use Rattle.arith.proofs.Tests.{both}
 use Rattle.words.specs.Leading.{leading, behind}
+use Rattle.words.proofs.LeadingLaws.{leading_yes, leading_no, behind_yes, behind_no}
 use Rattle.words.specs.Pieces.{Kind, gap, letter, number, other, plus, minus, point, numeral, capital, kind_of, Piece, word, stray, Begun, none, begun, ended, pieces_from, pieces_of}
 
 -- The pieces from a byte on, by its kind.
@@ -47,15 +48,19 @@ ends c n b line other e h = pieces_by other (begun c n) b line e ∙ ap (λ (t :
 
 -- A word takes all signs, digits and points after its letter, and ends before the next byte.
 word_from : (c : ℕ) (n s : List ℕ) → pieces_from (begun c n) s ≡ word c (n ++ leading numeral s) ∷ pieces_of (behind numeral s)
-unfolding pieces_from leading behind
+unfolding pieces_from
 word_from c n [] = λ i. word c (sym (append-nil n) i) ∷ []
 word_from c n (b ∷ t) = go (numeral b) refl (word_from c (n ++ b ∷ []) t)
   where
     go : (x : Bool) → numeral b ≡ x → pieces_from (begun c (n ++ b ∷ [])) t ≡ word c ((n ++ b ∷ []) ++ leading numeral t) ∷ pieces_of (behind numeral t)
-        → pieces_from (begun c n) (b ∷ t)
-        ≡ word c (n ++ elim x [ true ↦ b ∷ leading numeral t | false ↦ [] ]) ∷ pieces_of (elim x [ true ↦ behind numeral t | false ↦ b ∷ t ])
-    go true h more = pieces_by number (begun c n) b t (rw h) ∙ more ∙ (λ i. word c (append_assoc n (b ∷ []) (leading numeral t) i) ∷ pieces_of (behind numeral t))
-    go false h more = ends c n b t (kind_of b) refl h ∙ (λ i. word c (sym (append-nil n) i) ∷ pieces_of (b ∷ t))
+        → pieces_from (begun c n) (b ∷ t) ≡ word c (n ++ leading numeral (b ∷ t)) ∷ pieces_of (behind numeral (b ∷ t))
+    go true h more =
+        pieces_by number (begun c n) b t (rw h) ∙ more
+        ∙ (λ i. word c (append_assoc n (b ∷ []) (leading numeral t) i) ∷ pieces_of (behind numeral t))
+        ∙ (λ i. word c (n ++ sym (leading_yes numeral b t h) i) ∷ pieces_of (sym (behind_yes numeral b t h) i))
+    go false h more =
+        ends c n b t (kind_of b) refl h ∙ (λ i. word c (sym (append-nil n) i) ∷ pieces_of (b ∷ t))
+        ∙ (λ i. word c (n ++ sym (leading_no numeral b t h) i) ∷ pieces_of (sym (behind_no numeral b t h) i))
 
 -- The kind of a space, of a capital and of any other byte that is no numeral.
 kind_letter : (b : ℕ) → 65 ≤ b → b ≤ 90 → kind_of b ≡ letter

@@ -18,11 +18,8 @@ use Rattle.words.specs.Number.{after_sign, most_decimals, most_digits, most_numb
 use Rattle.display.specs.Display.{Outcome, given, refused}
 use Rattle.words.specs.Pieces.{Piece, word, stray, digit, minus, plus, point, within, pieces_of}
 use Rattle.words.specs.Words.{Words, Scan, filled, no_words, scan, slot_of, slots, behind_words, with_number, with_pieces, with_slot, with_word, words_of}
-use Rattle.words.specs.declared.Number.{Number}
-use Rattle.words.specs.declared.Number.TheVariants.{Of, Bad}
-use Rattle.words.specs.declared.Slot.{Slot}
-use Rattle.words.specs.declared.Slot.TheVariants.{At, Unlisted}
 use Rattle.words.proofs.NumberLaws.{leading_digits, all_digits, power_below}
+use Rattle.std.specs.Prelude.{Option, Some, None}
 
 -- So many digits write a number below that power of ten.
 value_most : (above : ℕ) (s : List ℕ) → OnlyDigits s → value_behind above s + 1 ≤ (above + 1) * 10 ^ length s
@@ -51,15 +48,15 @@ decimals_small v (suc (suc (suc (suc zero)))) h g = omega arith
 decimals_small v (suc (suc (suc (suc (suc n))))) h g = absurd (omega arith)
 
 -- A number is so small, or badly formed.
-abbrev Small : Number → Type 0
-Small Bad = Unit {0}
-Small (Of z) = nat_abs z ≤ most_number
+abbrev Small : Option ℤ → Type 0
+Small None = Unit {0}
+Small (Some z) = nat_abs z ≤ most_number
 
-signed_small : (negative : Bool) (n : ℕ) → n ≤ most_number → Small (Of (signed_by negative n))
+signed_small : (negative : Bool) (n : ℕ) → n ≤ most_number → Small (Some (signed_by negative n))
 signed_small true n h = omega (arith, nat_abs_neg (pos n), h)
 signed_small false n h = h
 
-chosen_small : (t : Bool) (n : Number) → (t ≡ true → Small n) → Small (cond t n Bad)
+chosen_small : (t : Bool) (n : Option ℤ) → (t ≡ true → Small n) → Small (cond t n None)
 chosen_small true n h = h refl
 chosen_small false n h = tt
 
@@ -69,7 +66,7 @@ of_small negative whole s h =
     chosen_small (within 1 most_decimals (length s) && eqb (length (leading digit s)) (length s)) _ (λ t. small (both (within 1 most_decimals (length s)) _ t))
   where
     small : (within 1 most_decimals (length s) ≡ true) × (eqb (length (leading digit s)) (length s) ≡ true)
-        → Small (Of (signed_by negative (whole * parts + value s * 10 ^ (most_decimals - length s))))
+        → Small (Some (signed_by negative (whole * parts + value s * 10 ^ (most_decimals - length s))))
     small t =
         let few = leb-true (length s) most_decimals (both (leb 1 (length s)) _ t.0).1 in
         let all = eqb-true (length (leading digit s)) (length s) t.1 in
@@ -118,9 +115,9 @@ zeros_small zero k = omega arith
 zeros_small (suc n) zero = omega arith
 zeros_small (suc n) (suc k) = zeros_small n k
 
-slot_small : (slot : Slot) (z : ℤ) (w : Words) → nat_abs z ≤ most_number → SmallWords w → SmallIn (with_slot slot z w)
-slot_small Unlisted z w h g = tt
-slot_small (At k) z w h g = go (get_or w.stands k false)
+slot_small : (slot : Option ℕ) (z : ℤ) (w : Words) → nat_abs z ≤ most_number → SmallWords w → SmallIn (with_slot slot z w)
+slot_small None z w h g = tt
+slot_small (Some k) z w h g = go (get_or w.stands k false)
   where
     go : (t : Bool) → SmallIn (cond t (refused 12) (given (filled k z w)))
     go true = tt
@@ -130,9 +127,9 @@ word_small : (letter : ℕ) (numerals : List ℕ) (w : Words) → SmallWords w �
 unfolding with_word
 word_small letter numerals w g = go (number_in numerals) (number_small numerals)
   where
-    go : (n : Number) → Small n → SmallIn (with_number letter n w)
-    go Bad h = tt
-    go (Of z) h = slot_small (slot_of letter z) z w h g
+    go : (n : Option ℤ) → Small n → SmallIn (with_number letter n w)
+    go None h = tt
+    go (Some z) h = slot_small (slot_of letter z) z w h g
 
 abbrev words_after : Scan → Words
 words_after s = s.words

@@ -8,7 +8,6 @@ use lib.ListN.{length, take, drop, get_or, length-drop}
 use lib.Seq.{drop-cons, drop-drop}
 use Rattle.display.specs.Display.{refusal_number, Outcome, given, refused}
 use Rattle.display.specs.declared.Refusal.{Refusal}
-use Rattle.display.specs.declared.Checked.TheVariants.{Passed, Refused}
 use Rattle.text.specs.Text.{space}
 use Rattle.words.specs.Leading.{leading, behind}
 use Rattle.words.specs.Pieces.{Piece, capital, numeral, pieces_of}
@@ -16,6 +15,7 @@ use Rattle.words.specs.Steps.{Puts}
 use Rattle.words.specs.Words.{Words, Scan, scan, with_word, with_pieces}
 use Rattle.words.proofs.LeadingLaws.{take_leading, drop_leading, length_leading}
 use Rattle.words.proofs.PieceLaws.{pieces_space, pieces_word, pieces_stray}
+use Rattle.std.specs.Prelude.{Ok, Err}
 
 -- A line's next byte, and the numerals behind it where it is a capital, behind words that are right.
 module _ (w : Words) (s : List ℕ) (h : 0 < length s) where
@@ -62,12 +62,12 @@ module _ (w : Words) (s : List ℕ) (h : 0 < length s) where
     step_faulty q = leads_word q
 
     -- by what putting the word answers
-    pub step_passed : (after : Words) (o : Outcome ℕ Words) → with_word b (take n (drop 1 s)) w ≡ o → Puts o w Passed after
+    pub step_passed : (after : Words) (o : Outcome ℕ Words) → with_word b (take n (drop 1 s)) w ≡ o → Puts o w (Ok tt) after
         → with_pieces (pieces_of (drop (n + 1) s)) after ≡ with_pieces (pieces_of s) w
     step_passed after (given v) q p = ap (with_pieces (pieces_of (drop (n + 1) s))) p ∙ step_word q
     step_passed after (refused k) q p = absurd p
 
-    pub step_refused : (why : Refusal) (after : Words) (o : Outcome ℕ Words) → with_word b (take n (drop 1 s)) w ≡ o → Puts o w (Refused why) after
+    pub step_refused : (why : Refusal) (after : Words) (o : Outcome ℕ Words) → with_word b (take n (drop 1 s)) w ≡ o → Puts o w (Err why) after
         → with_pieces (pieces_of s) w ≡ scan (refusal_number why) after
     step_refused why after (given v) q p = absurd p
     step_refused why after (refused k) q p = let number = sym p.0 in let words = sym p.1 in step_faulty q ∙ (λ i. scan (number i) (words i))

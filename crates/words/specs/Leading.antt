@@ -1,10 +1,9 @@
 -- The bytes that a list begins with as long as each is of one kind, and those behind them.
-use Rattle.std.specs.Prelude.{Bool, true, false, List, ◌∷◌, [], ℕ}
+use Rattle.std.specs.Prelude.{Bool, List, ℕ, drop, take_while}
+use Rattle.std.specs.List.{prefix_len}
 
-unfoldable pub leading : (ℕ → Bool) → List ℕ → List ℕ
-leading kind [] = []
-leading kind (b ∷ s) = elim (kind b) [ true ↦ b ∷ leading kind s | false ↦ [] ]
+abbrev pub leading : (ℕ → Bool) → List ℕ → List ℕ
+leading kind s = take_while kind s
 
-unfoldable pub behind : (ℕ → Bool) → List ℕ → List ℕ
-behind kind [] = []
-behind kind (b ∷ s) = elim (kind b) [ true ↦ behind kind s | false ↦ b ∷ s ]
+abbrev pub behind : (ℕ → Bool) → List ℕ → List ℕ
+behind kind s = drop (prefix_len kind s) s

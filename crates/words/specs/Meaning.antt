@@ -1,15 +1,11 @@
 -- What the definitions of lines, words and numbers are to mean: the other side of the laws about them.
-use Rattle.std.specs.Prelude.{◌≡◌, Bool, true, false, List, [], ◌∷◌, ◌++◌, ℕ, ◌+◌, ◌-◌, ◌*◌, ◌^◌, ◌≤◌, ◌<◌, eqb, ℤ, pos, length, get_or}
+use Rattle.std.specs.Prelude.{◌≡◌, Bool, true, false, List, [], ◌∷◌, ◌++◌, ℕ, ◌+◌, ◌-◌, ◌*◌, ◌^◌, ◌≤◌, ◌<◌, eqb, ℤ, pos, length, get_or, Option, Some, None}
 use Rattle.arith.specs.Signed.{signed_by}
 use Rattle.text.specs.Text.{OnlyDigits, line_feed, space, value}
 use Rattle.words.specs.Lines.{in_line}
 use Rattle.words.specs.Pieces.{Piece, word, stray, plus, minus, point}
 use Rattle.words.specs.Number.{most_decimals, most_digits, number_in, parts}
 use Rattle.words.specs.Words.{Words, slot_of, slots}
-use Rattle.words.specs.declared.Number.{Number}
-use Rattle.words.specs.declared.Number.TheVariants.{Of, Bad}
-use Rattle.words.specs.declared.Slot.{Slot}
-use Rattle.words.specs.declared.Slot.TheVariants.{At, Unlisted}
 
 -- every byte of a list is of a kind; the first one, where there is one, is not
 abbrev pub Each : (ℕ → Bool) → List ℕ → Type 0
@@ -66,48 +62,48 @@ pub data Numerals : (s : List ℕ) (z : ℤ) → Type 0 where
   with_minus : {s : List ℕ} {z : ℤ} → Unsigned true s z → Numerals (minus ∷ s) z
 
 -- the number of a piece, and its slot: a byte outside a word has neither, a word with a badly formed number has no slot
-abbrev pub number_of : Piece → Number
+abbrev pub number_of : Piece → Option ℤ
 number_of (word letter numerals) = number_in numerals
-number_of (stray b) = Bad
+number_of (stray b) = None
 
-abbrev pub slot_by : (letter : ℕ) → Number → Slot
-slot_by letter (Of z) = slot_of letter z
-slot_by letter Bad = Unlisted
+abbrev pub slot_by : (letter : ℕ) → Option ℤ → Option ℕ
+slot_by letter (Some z) = slot_of letter z
+slot_by letter None = None
 
-abbrev pub slot_in : Piece → Slot
+abbrev pub slot_in : Piece → Option ℕ
 slot_in (word letter numerals) = slot_by letter (number_in numerals)
-slot_in (stray b) = Unlisted
+slot_in (stray b) = None
 
 -- those of the piece at a place from 0; behind the last there are none
-abbrev pub number_at : List Piece → ℕ → Number
+abbrev pub number_at : List Piece → ℕ → Option ℤ
 number_at pieces i = number_of (get_or pieces i (stray 0))
 
-abbrev pub slot_at : List Piece → ℕ → Slot
+abbrev pub slot_at : List Piece → ℕ → Option ℕ
 slot_at pieces i = slot_in (get_or pieces i (stray 0))
 
 -- a slot is listed
-abbrev pub Listed : Slot → Type 0
-Listed (At k) = k < slots
-Listed Unlisted = ⊥
+abbrev pub Listed : Option ℕ → Type 0
+Listed (Some k) = k < slots
+Listed None = ⊥
 
 -- every piece is a word that is listed, and no two have the same slot
 pub record Once (pieces : List Piece) : Type 0 where
   pub listed : (i : ℕ) → i < length pieces → Listed (slot_at pieces i)
-  pub apart : (i j k : ℕ) → slot_at pieces i ≡ At k → slot_at pieces j ≡ At k → i ≡ j
+  pub apart : (i j k : ℕ) → slot_at pieces i ≡ Some k → slot_at pieces j ≡ Some k → i ≡ j
 
 -- the words of pieces: the slot of each has its number, and no other slot has a word
 pub record Kept (pieces : List Piece) (w : Words) : Type 0 where
-  pub stands : (i k : ℕ) → slot_at pieces i ≡ At k → get_or w.stands k false ≡ true
-  pub number : (i k : ℕ) → slot_at pieces i ≡ At k → number_at pieces i ≡ Of (get_or w.values k (pos 0))
-  pub only : (k : ℕ) → get_or w.stands k false ≡ true → (i : ℕ) × (slot_at pieces i ≡ At k)
+  pub stands : (i k : ℕ) → slot_at pieces i ≡ Some k → get_or w.stands k false ≡ true
+  pub number : (i k : ℕ) → slot_at pieces i ≡ Some k → number_at pieces i ≡ Some (get_or w.values k (pos 0))
+  pub only : (k : ℕ) → get_or w.stands k false ≡ true → (i : ℕ) × (slot_at pieces i ≡ Some k)
 
 -- a piece is faulty behind others, by the number on the display: it is a byte outside a word, a word whose number is badly formed, one that
 -- is not listed, or one whose slot is that of a word before it
 pub data Faulty (front : List Piece) : Piece → ℕ → Type 0 where
   outside : {b : ℕ} → Faulty front (stray b) 12
-  badly_formed : {letter : ℕ} {numerals : List ℕ} → number_in numerals ≡ Bad → Faulty front (word letter numerals) 13
-  not_listed : {letter : ℕ} {numerals : List ℕ} {z : ℤ} → number_in numerals ≡ Of z → slot_of letter z ≡ Unlisted → Faulty front (word letter numerals) 12
-  repeated : {letter : ℕ} {numerals : List ℕ} (i k : ℕ) → slot_in (word letter numerals) ≡ At k → slot_at front i ≡ At k
+  badly_formed : {letter : ℕ} {numerals : List ℕ} → number_in numerals ≡ None → Faulty front (word letter numerals) 13
+  not_listed : {letter : ℕ} {numerals : List ℕ} {z : ℤ} → number_in numerals ≡ Some z → slot_of letter z ≡ None → Faulty front (word letter numerals) 12
+  repeated : {letter : ℕ} {numerals : List ℕ} (i k : ℕ) → slot_in (word letter numerals) ≡ Some k → slot_at front i ≡ Some k
       → Faulty front (word letter numerals) 12
 
 -- the first faulty piece, behind pieces that are right

@@ -5,10 +5,10 @@ pub mod bytes;
 pub mod numbers;
 pub mod scan;
 
-use display::Refusal;
-
 // The slots of a line's words: one for each letter but G, and one for each pair of G words. What stands on a line is
-// kept in two lists, whether a word stands in each slot, and its number, ten-thousandths.
+// a list of as many numbers, ten-thousandths: that of the word in each slot, or `None` where no word stands. Slots are
+// numbers and no enum, since the letters X, Y and Z are counted to theirs (`scan::axis_slot`): of a match on letters the
+// compiler makes a table in read-only memory, of which the library may have 128 bytes.
 // G0 or G1
 pub const MOTION: usize = 0;
 // G20 or G21
@@ -40,37 +40,3 @@ pub const MILLIMETRES: u64 = 210_000;
 pub const ABSOLUTE: u64 = 900_000;
 
 pub const INCREMENTAL: u64 = 910_000;
-
-// The number of a word.
-#[derive(Clone, Copy)]
-pub enum Number {
-    // so many ten-thousandths
-    Of(i64),
-    // badly formed
-    Bad,
-}
-
-// Digits that stand at the beginning of bytes.
-#[derive(Clone, Copy)]
-struct Digits {
-    // how many
-    count: usize,
-    // the number that they write
-    value: u64,
-}
-
-// Where a word stands among a line's words.
-#[derive(Clone, Copy)]
-enum Slot {
-    At(usize),
-    // it is not listed
-    Unlisted,
-}
-
-// What comes of the next bytes of a line behind words that are right.
-#[derive(Clone, Copy)]
-enum Step {
-    // so many bytes are done
-    Next(usize),
-    Refused(Refusal),
-}

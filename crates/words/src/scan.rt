@@ -1,141 +1,116 @@
 // The words of a line, one after the other from the left.
 ghost use Rattle.std.specs.Prelude.{◌≡◌, ◌<◌, length};
-ghost use Rattle.words.specs.Steps.{Puts, Scanned, Sized, Stepped};
+ghost use Rattle.words.specs.Steps.{Puts, Scanned, Stepped};
 ghost use Rattle.words.specs.Words.{InLine, axis_slot, is_value, slot_of, slot_of_g, behind_words, with_slot, with_word, words_in};
 
-use crate::bytes::{is_capital, numerals};
+use crate::bytes::numerals;
 use crate::numbers::read_number;
 use crate::{
-    ABSOLUTE, FEED, INCHES, INCREMENTAL, LINE, MILLIMETRES, MOTION, Number, RAPID, SLOTS, STRAIGHT,
-    Slot, Step, UNIT, WAY, X,
+    ABSOLUTE, FEED, INCHES, INCREMENTAL, LINE, MILLIMETRES, MOTION, RAPID, SLOTS, STRAIGHT, UNIT,
+    WAY, X,
 };
-use arith::signed::magnitude;
-use display::{Checked, Refusal};
-use fields::wide;
+use display::Refusal;
 
 // Whether a number is so many ten-thousandths.
 pub fn is_value(number: i64, v: u64) -> bool
     ensures { result ≡ is_value v number }
 {
-    if number < 0 {
-        return false;
-    }
-    magnitude(number) == v
+    number >= 0 && number.unsigned_abs() == v
 }
 
 // The slot of a G word by its value, ten-thousandths: G01 is G1.
-fn slot_of_g(value: i64) -> Slot
+fn slot_of_g(value: i64) -> Option<usize>
     ensures { (result ≡ slot_of_g value) × InLine result }
 {
-    if is_value(value, RAPID) | is_value(value, STRAIGHT) {
-        return Slot::At(MOTION);
+    if is_value(value, RAPID) || is_value(value, STRAIGHT) {
+        Some(MOTION)
+    } else if is_value(value, INCHES) || is_value(value, MILLIMETRES) {
+        Some(UNIT)
+    } else if is_value(value, ABSOLUTE) || is_value(value, INCREMENTAL) {
+        Some(WAY)
+    } else {
+        None
     }
-    if is_value(value, INCHES) | is_value(value, MILLIMETRES) {
-        return Slot::At(UNIT);
-    }
-    if is_value(value, ABSOLUTE) | is_value(value, INCREMENTAL) {
-        return Slot::At(WAY);
-    }
-    Slot::Unlisted
 }
 
 // The slot of an axis by its letter: X, Y and Z follow one another as their slots do. By a difference, since of a test for
 // each letter the compiler makes a table in read-only memory.
-fn axis_slot(letter: u8) -> Slot
+fn axis_slot(letter: u8) -> Option<usize>
     ensures { (result ≡ axis_slot letter) × InLine result }
 {
-    if letter < b'X' {
-        return Slot::Unlisted;
+    if letter < b'X' || b'Z' < letter {
+        return None;
     }
-    if b'Z' < letter {
-        return Slot::Unlisted;
-    }
-    Slot::At(X + (wide(letter) - 88) as usize)
+    Some(X + usize::from(letter - b'X'))
 }
 
-// The slot of a word by its letter and its number, ten-thousandths.
-fn slot_of(letter: u8, value: i64) -> Slot
+// The slot of a word by its letter and its number, ten-thousandths; `None` where it is not listed.
+fn slot_of(letter: u8, value: i64) -> Option<usize>
     ensures { (result ≡ slot_of letter value) × InLine result }
 {
     if letter == b'G' {
-        return slot_of_g(value);
+        slot_of_g(value)
+    } else if letter == b'N' {
+        Some(LINE)
+    } else if letter == b'F' {
+        Some(FEED)
+    } else {
+        axis_slot(letter)
     }
-    if letter == b'N' {
-        return Slot::At(LINE);
-    }
-    if letter == b'F' {
-        return Slot::At(FEED);
-    }
-    axis_slot(letter)
 }
 
 // Puts a word in its slot: 12 where it is not listed, or one stands there already.
-fn put_slot(stands: &mut [bool], values: &mut [i64], slot: Slot, value: i64) -> Checked
-    requires { Sized stands.old values.old × InLine slot }
-    ensures { Puts (with_slot slot value (words_in stands.old values.old)) (words_in stands.old values.old) result (words_in stands.new values.new) }
+fn put_slot(
+    words: &mut [Option<i64>; SLOTS],
+    slot: Option<usize>,
+    value: i64,
+) -> Result<(), Refusal>
+    requires { InLine slot }
+    ensures { Puts (with_slot slot value (words_in words.old)) (words_in words.old) result (words_in words.new) }
 {
-    match slot {
-        Slot::Unlisted => Checked::Refused(Refusal::Word),
-        Slot::At(k) => {
-            if stands[k] {
-                return Checked::Refused(Refusal::Word);
-            }
-            stands[k] = true;
-            values[k] = value;
-            Checked::Passed
-        }
+    let k = slot.ok_or(Refusal::Word)?;
+    if words[k].is_some() {
+        return Err(Refusal::Word);
     }
+    words[k] = Some(value);
+    Ok(())
 }
 
 // Puts a word by its letter and its numerals: 13 where its number is badly formed, before 12.
-fn put_word(stands: &mut [bool], values: &mut [i64], letter: u8, numerals: &[u8]) -> Checked
-    requires { Sized stands.old values.old }
-    ensures { Puts (with_word letter numerals.now (words_in stands.old values.old)) (words_in stands.old values.old) result (words_in stands.new values.new) }
+fn put_word(words: &mut [Option<i64>; SLOTS], letter: u8, numerals: &[u8]) -> Result<(), Refusal>
+    ensures { Puts (with_word letter numerals.now (words_in words.old)) (words_in words.old) result (words_in words.new) }
 {
-    match read_number(numerals) {
-        Number::Bad => Checked::Refused(Refusal::Number),
-        Number::Of(value) => put_slot(stands, values, slot_of(letter, value), value),
-    }
+    let value = read_number(numerals).ok_or(Refusal::Number)?;
+    put_slot(words, slot_of(letter, value), value)
 }
 
-// What comes of a line's next byte, and of the numerals behind it where it is a capital.
-fn step(stands: &mut [bool], values: &mut [i64], rest: &[u8]) -> Step
-    requires { Sized stands.old values.old × (0 < length rest.now) }
-    ensures { Stepped (words_in stands.old values.old) rest.now result (words_in stands.new values.new) }
+// What comes of a line's next byte, and of the numerals behind it where it is a capital: how many bytes are done.
+fn step(words: &mut [Option<i64>; SLOTS], rest: &[u8]) -> Result<usize, Refusal>
+    requires { 0 < length rest.now }
+    ensures { Stepped (words_in words.old) rest.now result (words_in words.new) }
 {
     let b = rest[0];
     if b == b' ' {
-        return Step::Next(1);
+        return Ok(1);
     }
-    if !is_capital(b) {
-        return Step::Refused(Refusal::Word);
+    if !b.is_ascii_uppercase() {
+        return Err(Refusal::Word);
     }
     let n = numerals(&rest[1..]);
-    match put_word(stands, values, b, &rest[1..n + 1]) {
-        Checked::Passed => Step::Next(n + 1),
-        Checked::Refused(why) => Step::Refused(why),
-    }
-}
-
-// Reads a line behind the words that stand in lists of the right length.
-fn scan_line(line: &[u8], stands: &mut [bool], values: &mut [i64]) -> Checked
-    requires { Sized stands.old values.old }
-    ensures { Scanned (behind_words line.now (words_in stands.old values.old)) result stands.new values.new }
-{
-    let mut at: usize = 0;
-    while at < line.len() {
-        match step(stands, values, &line[at..]) {
-            Step::Next(n) => at += n,
-            Step::Refused(why) => return Checked::Refused(why),
-        }
-    }
-    Checked::Passed
+    put_word(words, b, &rest[1..n + 1])?;
+    Ok(n + 1)
 }
 
 // Reads the words of a line, behind those that stand already: all of them, or those before its first fault from the
 // left, which is answered: 12 or 13.
-pub fn read_words(line: &[u8], stands: &mut [bool; SLOTS], values: &mut [i64; SLOTS]) -> Checked
-    ensures { Scanned (behind_words line.now (words_in stands.old values.old)) result stands.new values.new }
+pub fn read_words(line: &[u8], words: &mut [Option<i64>; SLOTS]) -> Result<(), Refusal>
+    ensures { Scanned (behind_words line.now (words_in words.old)) result words.new }
 {
-    scan_line(line, stands, values)
+    let mut rest = line;
+    // By what is left, and no `for`: how far a word goes is found by reading it.
+    while !rest.is_empty() {
+        let n = step(words, rest)?;
+        rest = &rest[n..];
+    }
+    Ok(())
 }

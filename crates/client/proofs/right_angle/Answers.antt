@@ -18,14 +18,14 @@ said c =
 
 pub expect_given-requires : goal.expect_given-requires
 expect_given-requires c =
-    gives_first c.in-Given.g (sym (ap take_means c.in-Given.is) ∙ (said c.before).0)
+    gives_first c.in-Ok.g (sym (ap take_means c.in-Ok.is) ∙ (said (goal.at.expect_given-requires c).After-take-second).0)
 
 pub expect-requires : goal.expect-requires
-expect-requires c = absurd (first_given _ (sym (ap take_means c.in-Refused.is) ∙ (said c.before).0))
+expect-requires c = absurd (first_given _ (sym (ap take_means c.in-Err.is) ∙ (said (goal.at.expect-requires c).After-take-second).0))
 
-pub expect_given-requires-in-Given-after : goal.expect_given-requires-in-Given-after
-expect_given-requires-in-Given-after c =
-    gives_second c.in-Given-after.g (sym (ap take_means c.in-Given-after.is) ∙ (said c.before.before).1)
+pub expect_given-requires-in-Ok-answer : goal.expect_given-requires-in-Ok-answer
+expect_given-requires-in-Ok-answer c =
+    gives_second c.in-Ok-answer.g (sym (ap take_means c.in-Ok-answer.is) ∙ (said (goal.at.expect_given-requires-in-Ok-answer c).After-take-second).1)
 
-pub expect-requires-in-Refused-after : goal.expect-requires-in-Refused-after
-expect-requires-in-Refused-after c = absurd (second_given _ (sym (ap take_means c.in-Refused-after.is) ∙ (said c.before.before).1))
+pub expect-requires-in-Err-answer : goal.expect-requires-in-Err-answer
+expect-requires-in-Err-answer c = absurd (second_given _ (sym (ap take_means c.in-Err-answer.is) ∙ (said (goal.at.expect-requires-in-Err-answer c).After-take-second).1))

@@ -1,9 +1,9 @@
--- `doubles::double_of` meets its contract: above the infinity's pattern, the sign apart, every pattern is a NaN's, and 0 / 0 is the NaN.
+-- `doubles::double_of` meets its contract: above the infinity's pattern, the sign apart, every pattern is a NaN's, and std's NaN is the NaN.
 use mathlib.Core.Path.{◌≡◌, refl, sym, subst, ◌∙◌}
 use mathlib.Core.Bool.{true}
 use borrow.Author.Tests.{lt-ltb, le-ltb}
 use lib.Dec.{T}
-use lib.Ieee.{Float, nan, inf, fin, binary64, div, is_nan, of_bits}
+use lib.Ieee.{Float, nan, inf, fin, binary64, is_nan, of_bits}
 use lib.Ieee.Bits.{nan_bits_above, nan_bits_is}
 use Rattle.doubles.proofs.double_of.Goals as goal
 
@@ -13,8 +13,8 @@ only_nan nan e = refl
 only_nan (inf s) e = absurd (subst T (sym e) tt)
 only_nan (fin s m e) h = absurd (subst T (sym h) tt)
 
-none : div binary64 (of_bits binary64 0) (of_bits binary64 0) ≡ nan
-unfolding div of_bits
+none : of_bits binary64 0x7ff8_0000_0000_0000 ≡ nan
+unfolding of_bits
 none = refl
 
 pub returns-then-bits : goal.returns-then-bits

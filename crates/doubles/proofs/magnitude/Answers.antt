@@ -16,7 +16,7 @@ returns-then-exponent-ge-FAR c = magnitude_far c.args.exponent c.args.digits (le
 
 pub returns : goal.returns
 returns c =
-    c.smaller.ensures
+    c.min.ensures
     ∙ ap (min (most_read + 1))
     (c.nearest_shift-n.ensures
     ∙ magnitude_shifted c.args.exponent c.args.digits (pos_of_ne-zero c.if-exponent-eq0.false) (le_trans (le_of_lt c.if-exponent-ge-FAR.false) (lit≤ tt)))

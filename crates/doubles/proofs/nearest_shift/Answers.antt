@@ -1,10 +1,8 @@
 -- `doubles::nearest_shift` meets its contract: by a power from 2 ^ 64 on, a number below 2 ^ 63 is less than a half.
 use Prim.Native.Nat.{ℕ, ◌*◌, ◌^◌, ◌<◌}
-use mathlib.Core.Path.{sym, ap, subst, ◌∙◌}
 use native.Mathlib.Nat.{lt_of_lt_of_le}
 use native.Mathlib.Omega.{arith}
-use lib.Pow.{pow_pos, pow_mono}
-use lib.Ieee.Nearest.{closest}
+use lib.Pow.{pow_mono}
 use Rattle.doubles.proofs.Closest.{closest_small}
 use Rattle.doubles.proofs.nearest_shift.Goals as goal
 
@@ -15,9 +13,3 @@ pub returns-then-k-gt63 : goal.returns-then-k-gt63
 returns-then-k-gt63 c =
     let a = c.args in
     closest_small a.n (2 ^ a.k) (lt_of_lt_of_le (twice a.n c.requires) (pow_mono c.if-k-gt63.true))
-
-pub nearest-requires : goal.nearest-requires
-nearest-requires c = (subst (λ (p : ℕ). 0 < p) (sym c.pow2.ensures) (pow_pos c.args.k), c.requires)
-
-pub returns : goal.returns
-returns c = c.nearest.ensures ∙ ap (closest c.args.n) c.pow2.ensures

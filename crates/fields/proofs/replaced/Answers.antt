@@ -27,9 +27,6 @@ module _ (c : After-pow2-size) where
 pub returns : goal.returns
 returns c = sym (with_def _ _ _ _ c.pow2-unit.ensures.is c.pow2-size.ensures.is)
 
-pub overflow_mul-result : goal.overflow_mul-result
-overflow_mul-result c = record { fits = omega (arith, fits c) }
-
 pub overflow_add-result : goal.overflow_add-result
 overflow_add-result c = record { fits = omega (arith, fits c) }
 

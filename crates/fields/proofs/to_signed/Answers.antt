@@ -26,9 +26,6 @@ module _ (c : After-pow2-size) where
   abbrev moved : ℕ
   moved = (bits % size + size / 2) % size
 
-  low : bits % size < size
-  low = mod-lt bits c.pow2-size.ensures.positive
-
   small : moved < size
   small = mod-lt (bits % size + size / 2) c.pow2-size.ensures.positive
 
@@ -46,15 +43,6 @@ module _ (c : After-pow2-size) where
 
   fitting : SFits w64 (signed_of width bits)
   fitting = record { sfits = omega (arith, signed_size width bits, power) }
-
-pub overflow_add-moved : goal.overflow_add-moved
-overflow_add-moved c = record { fits = omega (arith, low c, bounded c) }
-
-pub overflow_cast-result : goal.overflow_cast-result
-overflow_cast-result c = record { sfits = omega (arith, small c, bounded c) }
-
-pub overflow_sub-result : goal.overflow_sub-result
-overflow_sub-result c = rw (value c) (fitting c)
 
 pub returns : goal.returns
 returns c = ap (λ (z : ℤ). to_z w64 (of_z w64 z)) (value c) ∙ to_z-of_z (fitting c)

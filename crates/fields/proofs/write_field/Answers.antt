@@ -5,13 +5,14 @@ use native.Mathlib.Omega.{arith}
 use Rattle.fields.specs.Bytes.{Bytes, with_bytes}
 use Rattle.fields.specs.Fields.{with_part}
 use Rattle.fields.proofs.Fields.{write_part}
+use borrow.Author.Rules.{rules}
 use Rattle.fields.proofs.write_field.Goals as goal
 
 pub returns : goal.returns
 returns c =
     let a = c.args in
     let n = c.bytes_for-n.result in
-    let bytes : Bytes a.s.now = record { each = λ i. (c.slice_known-1.given i).fits } in
+    let bytes : Bytes a.s.now = record { each = λ i. search rules } in
     c.store.ensures
     ∙ ap (with_bytes a.s.now (a.at / 8) n)
     (c.replaced.ensures

@@ -12,4 +12,4 @@ returns-then-p-gt0 c = later_stored _ _ _ c.if-p-gt0.true
 pub returns : goal.returns
 returns c =
     first_stored c.args.p (λ h. omega (arith, c.if-p-gt0.false)) refl
-    (stored_with_room (omega (arith, c.requires, header_length)) c.put_header.ensures c.behind.ensures)
+    (stored_with_room (omega (arith, header_length)) c.put_header.ensures c.behind.ensures)

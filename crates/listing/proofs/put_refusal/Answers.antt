@@ -14,8 +14,8 @@ returns-then-p-gt0 c = later_stored _ _ _ c.if-p-gt0.true
 pub returns : goal.returns
 returns c =
     first_stored c.args.p (λ h. omega (arith, c.if-p-gt0.false))
-    (ap (λ (n : ℕ). refused_at n c.args.place) c.refusal_number.ensures)
+    (ap (λ (n : ℕ). refused_at n c.args.r.place) c.refusal_number.ensures)
     (stored_with_room
-    (omega (arith, c.requires, refused_at_most c.refusal_number.result c.args.place c.refusal_number.type_inv c.ranges.place.fits))
+    (omega (arith, refused_at_most c.refusal_number.result c.args.r.place c.refusal_number.type_inv (omega arith)))
     c.put_refused_at.ensures
     c.behind.ensures)

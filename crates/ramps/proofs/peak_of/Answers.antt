@@ -4,4 +4,4 @@ use Rattle.ramps.proofs.peak_of.Goals as goal
 
 pub returns : goal.returns
 unfolding peak_of
-returns c = c.smaller.ensures
+returns c = c.min.ensures

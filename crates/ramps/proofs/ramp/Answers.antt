@@ -37,7 +37,7 @@ returns c =
     let a = c.args in
     let peak = c.peak_of-peak.result in
     let r = ramp_at a.n a.entry a.exit peak in
-    (λ i. record { peak = peak; up = r.up; cruise = (c.less-2.ensures ∙ ap (λ (x : ℕ). x - r.down) c.less.ensures) i; down = r.down })
+    (λ i. record { peak = peak; up = r.up; cruise = (c.saturating_sub-2.ensures ∙ ap (λ (x : ℕ). x - r.down) c.saturating_sub.ensures) i; down = r.down })
     ∙ ap (ramp_at a.n a.entry a.exit) c.peak_of-peak.ensures
 
 pub overflow_sub-up : goal.overflow_sub-up

@@ -1,4 +1,5 @@
 -- `replay::read_head` meets its contract: the tests are the definition's, and the rest is what `read_limits` ensures.
+use mathlib.Core.Bool.{true≢false}
 use mathlib.Core.Path.{sym, ◌∙◌}
 use Rattle.display.specs.declared.Refusal.TheVariants as why
 use Rattle.tape.specs.Tape.{limits_at}
@@ -12,12 +13,12 @@ use Rattle.replay.proofs.read_head.Goals as goal
 pub returns-then-trace-lt-LIMITS_BYTES : goal.returns-then-trace-lt-LIMITS_BYTES
 returns-then-trace-lt-LIMITS_BYTES c = refuses_by _ why.Ragged (head_short _ c.if-trace-lt-LIMITS_BYTES.true)
 
-pub returns-then-trace-ne0 : goal.returns-then-trace-ne0
-returns-then-trace-ne0 c = refuses_by _ why.Ragged (head_ragged _ c.if-trace-lt-LIMITS_BYTES.false c.if-trace-ne0.true)
+pub returns-then-not-is_multiple_of : goal.returns-then-not-is_multiple_of
+returns-then-not-is_multiple_of c = refuses_by _ why.Ragged (head_ragged _ c.if-trace-lt-LIMITS_BYTES.false (λ z. true≢false (sym (c.is_multiple_of.ensures.1 z) ∙ c.if-not-is_multiple_of.true)))
 
 pub returns : goal.returns
 unfolding read_limits
 returns c =
     let s = c.args.trace.now in
-    let n = limits_long s c.if-trace-lt-LIMITS_BYTES.false ∙ sym (head_limits s c.if-trace-lt-LIMITS_BYTES.false c.if-trace-ne0.false) in
+    let n = limits_long s c.if-trace-lt-LIMITS_BYTES.false ∙ sym (head_limits s c.if-trace-lt-LIMITS_BYTES.false (c.is_multiple_of.ensures.0 c.if-not-is_multiple_of.false)) in
     c.read_limits.ensures ∙ (λ i. by_number (n i) (given (limits_at s)) (refused (n i)))

@@ -14,14 +14,13 @@ use borrow.Author.Rules.{rules}
 use Rattle.replay.proofs.run.Goals as goal
 
 pub loop-k-init : goal.loop-k-init
-loop-k-init c = (search rules, search rules, ran_none call_bytes call_of c.args.bytes.now c.args.memory.now)
+loop-k-init c = (search rules, ran_none call_bytes call_of c.args.bytes.now c.args.memory.now)
 
 pub loop-k-preserved : goal.loop-k-preserved
 loop-k-preserved c =
     let k = c.loop-k.k in (
       search rules,
-      search rules,
-      ran_stored c.args.bytes.now c.loop-k.answers c.write_row.new.row k (row_size * k + row_size - row_size * k) (search rules) c.loop-k.invariant.2
+      ran_stored c.args.bytes.now c.loop-k.answers c.write_row.new.row k (row_size * k + row_size - row_size * k) (search rules) c.loop-k.invariant.1
           c.read_call.ensures c.call-answer.ensures c.write_row.ensures,
     )
 
@@ -30,4 +29,4 @@ returns c =
     let s = c.args in
     let all : c.loop-k.k ≡ length s.bytes.now / call_bytes = search rules in
     subst (λ (j : ℕ). Ran Called row_of (calls_from s.bytes.now 0 j) s.memory.now c.loop-k.memory c.loop-k.answers) all
-    (subst (λ (rows : List ℕ). Ran Called row_of (calls_from s.bytes.now 0 c.loop-k.k) s.memory.now c.loop-k.memory rows) (take_all (row_size * c.loop-k.k) c.loop-k.answers (omega arith)) c.loop-k.invariant.2)
+    (subst (λ (rows : List ℕ). Ran Called row_of (calls_from s.bytes.now 0 c.loop-k.k) s.memory.now c.loop-k.memory rows) (take_all (row_size * c.loop-k.k) c.loop-k.answers (omega arith)) c.loop-k.invariant.1)

@@ -1,6 +1,6 @@
 -- `replay::run` meets its contract: before call k those before it have been run, each into its row. From `ran_none` and `ran_stored`.
 use mathlib.Core.Path.{◌≡◌}
-use Prim.Native.Nat.{◌-◌, ◌*◌, ◌≤◌}
+use Prim.Native.Nat.{◌*◌}
 use lib.ListN.{length, take}
 use Rattle.planner.specs.Calls.{Called}
 use Rattle.replay.specs.Trace.{calls_from}
@@ -9,7 +9,4 @@ use Rattle.replay.specs.Runs.{Ran}
 use Rattle.replay.proofs.run.Given as goal
 
 abbrev pub invariant-loop-k : goal.invariant-loop-k
-invariant-loop-k l = (l.k ≤ l.n) × (length l.answers ≡ row_size * l.n) × Ran Called row_of (calls_from l.bytes 0 l.k) l.initial.memory l.memory (take (row_size * l.k) l.answers)
-
-abbrev pub decreases-loop-k : goal.decreases-loop-k
-decreases-loop-k l = l.n - l.k
+invariant-loop-k l = (length l.answers ≡ row_size * l.n) × Ran Called row_of (calls_from l.bytes 0 l.k) l.initial.memory l.memory (take (row_size * l.k) l.answers)

@@ -6,18 +6,18 @@ use Rattle.replay_text.proofs.Lines.{refused_few}
 use borrow.Author.Rules.{rules}
 use Rattle.replay_text.proofs.write_answer.Goals as goal
 
-pub returns-in-Accepted : goal.returns-in-Accepted
+pub returns-in-None : goal.returns-in-None
 unfolding answer_text
-returns-in-Accepted c =
-    rw c.in-Accepted.is (wrote (omega arith) c.requires c.put_added.ensures c.behind.ensures)
+returns-in-None c =
+    rw (c.in-Ok.is, c.in-None.is) (wrote (omega arith) c.requires c.put_added.ensures c.behind.ensures)
 
-pub returns-in-Gave : goal.returns-in-Gave
+pub returns-in-Some : goal.returns-in-Some
 unfolding answer_text
-returns-in-Gave c =
-    rw c.in-Gave.is c.store_given.ensures
+returns-in-Some c =
+    rw (c.in-Ok.is, c.in-Some.is) c.store_given.ensures
 
-pub returns-in-Refused : goal.returns-in-Refused
+pub returns-in-Err : goal.returns-in-Err
 unfolding answer_text
-returns-in-Refused c =
-    rw (c.in-Refused.is, ← c.refusal_number.ensures)
-    (wrote (refused_few c.refusal_number.result (search rules)) c.requires c.put_refused.ensures c.behind-in-Refused.ensures)
+returns-in-Err c =
+    rw (c.in-Err.is, ← c.refusal_number.ensures)
+    (wrote (refused_few c.refusal_number.result (search rules)) c.requires c.put_refused.ensures c.behind-in-Err.ensures)

@@ -6,5 +6,5 @@ use Rattle.replay_text.proofs.write_end.Goals as goal
 
 pub returns : goal.returns
 returns c =
-    both_lines c.args.told (search rules) c.args.plan.now (λ i. omega (arith, c.type_inv.plan i)) c.requires.0 c.requires.1
+    both_lines c.args.told (search rules) c.args.plan.now (λ i. omega (arith, c.type_inv.plan i)) c.requires (search rules)
     c.put_held.ensures c.behind-end.ensures c.put_plan.ensures c.behind.ensures

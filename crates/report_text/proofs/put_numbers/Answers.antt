@@ -8,5 +8,5 @@ returns c =
     let a = c.args in
     record {
       answered = c.put_named_row.ensures;
-      short = omega (arith, named_row_most a.numbers.now a.name.now (λ i. omega (arith, c.type_inv.numbers i)), c.requires);
+      short = omega (arith, named_row_most a.numbers.now a.name.now (λ i. omega (arith, c.fits-numbers i)), c.told-numbers);
     }

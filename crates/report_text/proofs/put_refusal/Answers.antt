@@ -10,10 +10,10 @@ use Rattle.report_text.proofs.put_refusal.Goals as goal
 pub returns : goal.returns
 returns c =
     let a = c.args in
-    subst (λ (n : ℕ). PutLine (refused_named n a.place a.name.now) a.name.now a.text.now c.put_refused_named.result c.put_refused_named.new.out)
+    subst (λ (n : ℕ). PutLine (refused_named n a.r.place a.name.now) a.name.now a.text.now c.put_refused_named.result c.put_refused_named.new.out)
     c.refusal_number.ensures (
     record {
       answered = c.put_refused_named.ensures;
-      short = omega (arith, refused_named_most c.refusal_number.result a.place a.name.now c.refusal_number.type_inv c.ranges.place.fits);
+      short = omega (arith, refused_named_most c.refusal_number.result a.r.place a.name.now c.refusal_number.type_inv (omega arith));
     }
     )

@@ -6,12 +6,6 @@ use lib.ListN.{length-set}
 use Rattle.text.proofs.Store.{stored_none, stored_cons}
 use Rattle.text.proofs.store_group.Goals as goal
 
-pub bounds-out-at-2 : goal.bounds-out-at-2
-bounds-out-at-2 c = simp length-set (omega arith)
-
-pub bounds-out-at-3 : goal.bounds-out-at-3
-bounds-out-at-3 c = simp length-set (omega arith)
-
 pub returns : goal.returns
 returns c =
     let n = c.args.n in

@@ -1,7 +1,7 @@
 -- `text::store_line`: the line feed behind the words and the numbers, from `stored_next`.
 use Prim.Native.Nat.{◌+◌, ◌≤◌}
 use native.Mathlib.Omega.{arith}
-use lib.ListN.{length, length-append, length-set}
+use lib.ListN.{length, length-append}
 use Rattle.text.specs.Text.{line_feed, spaced, line}
 use Rattle.text.proofs.Store.{stored_next, stored_byte}
 use Rattle.text.proofs.Lines.{length_line}
@@ -32,9 +32,6 @@ bounds-out-end c = omega (arith, ends (goal.at.bounds-out-end c).After-out-1)
 
 pub overflow_add-result : goal.overflow_add-result
 overflow_add-result c = omega (arith, ends (goal.at.overflow_add-result c).After-out-1, c.out-1.given)
-
-pub shape_of-out : goal.shape_of-out
-shape_of-out c = simp length-set c.out-1.given
 
 pub returns : goal.returns
 unfolding line

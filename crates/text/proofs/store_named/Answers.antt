@@ -51,9 +51,6 @@ bounds-out-last c = omega (arith, ends (goal.at.bounds-out-last c).After-out-2-1
 pub overflow_add-result : goal.overflow_add-result
 overflow_add-result c = omega (arith, ends (goal.at.overflow_add-result c).After-out-2-1 (room (goal.at.overflow_add-result c).After-out-1), long (goal.at.overflow_add-result c).After-out-2-1, c.out-1.given)
 
-pub shape_of-out : goal.shape_of-out
-shape_of-out c = simp length-set (long (goal.at.shape_of-out c).After-out-2-1 ∙ c.out-1.given)
-
 pub returns : goal.returns
 unfolding named
 returns c =

@@ -14,18 +14,11 @@ few n h = length_word n h
 
 pub store_number-behind-requires : goal.store_number-behind-requires
 store_number-behind-requires c =
-    omega (arith, few c.args.number c.ranges.number.fits, c.out-1.given, c.store_bytes-before.ensures.next)
+    omega (arith, few c.args.number c.ranges.number.fits, c.store_bytes-before.ensures.next, c.told-out)
 
 pub store_bytes-requires : goal.store_bytes-requires
 store_bytes-requires c =
-    omega (
-      arith,
-      few c.args.number c.ranges.number.fits,
-      c.out-1.given,
-      c.store_bytes-before.ensures.next,
-      c.out-2-1.given,
-      c.store_number-behind.ensures.next,
-    )
+    omega (arith, few c.args.number c.ranges.number.fits, c.store_bytes-before.ensures.next, c.store_number-behind.ensures.next, c.told-out)
 
 pub returns : goal.returns
 unfolding refused_words spaced

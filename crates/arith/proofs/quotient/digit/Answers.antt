@@ -1,7 +1,7 @@
 -- `arith::quotient::digit` meets its contract. The invariant: q is a digit that is not too small, and its product with d's leading half is within `high`. The measure is q.
-use Rattle.std.proofs.Common.{◌+◌, ◌-◌, ◌*◌, ◌/◌, ◌%◌, ◌^◌, ◌<◌, ◌≤◌, sym, le-div_iff_mul-le, arith}
+use Rattle.std.proofs.Common.{◌+◌, ◌-◌, ◌*◌, ◌/◌, ◌^◌, ◌<◌, ◌≤◌, sym, le-div_iff_mul-le, arith}
 use native.Mathlib.Nat.{min-le_left, div-eq_of_lt-le}
-use Rattle.arith.proofs.Division.{two_digits, half_product, first_try, digit_fits, digit_surely_fits, digit_too_large}
+use Rattle.arith.proofs.Division.{two_digits, first_try, digit_fits, digit_surely_fits, digit_too_large}
 use Rattle.arith.proofs.quotient.digit.Goals as goal
 use Rattle.arith.proofs.quotient.digit.Goals.{Else-q-d}
 
@@ -17,20 +17,11 @@ lowered c =
 pub loop-left-init : goal.loop-left-init
 loop-left-init c =
     let a = c.args in
-    rw c.smaller-q.ensures (
+    rw c.min-q.ensures (
       omega arith,
       (le-div_iff_mul-le {k = a.d / 2 ^ 32} (omega arith)).0 (min-le_left (a.high / (a.d / 2 ^ 32)) (2 ^ 32 - 1)),
       first_try a.high a.low a.d c.requires.0 c.requires.1 c.requires.2,
     )
-
-pub overflow_mul-q : goal.overflow_mul-q
-overflow_mul-q c = record { fits = omega (arith, half_product {x = c.loop-left.q} {y = c.args.d % 2 ^ 32} (omega arith) (omega arith)) }
-
-pub overflow_sub-q : goal.overflow_sub-q
-overflow_sub-q c = (lowered c).0
-
-pub loop-left-smaller : goal.loop-left-smaller
-loop-left-smaller c = omega (arith, (lowered c).0)
 
 pub loop-left-preserved : goal.loop-left-preserved
 loop-left-preserved c = (omega arith, (lowered c).2, (lowered c).1)

@@ -1,11 +1,7 @@
 -- `arith::root::root_beside` meets its contract: r or the number below it is the one whose square is not above n, while the next number's is.
-use Rattle.std.proofs.Common.{sub-add_cancel, arith}
-use Rattle.arith.proofs.Division.{half_product}
+use Rattle.std.proofs.Common.{sub-add_cancel}
 use Rattle.arith.proofs.RootLaws.{root_found}
 use Rattle.arith.proofs.root.root_beside.Goals as goal
-
-pub overflow_mul-r : goal.overflow_mul-r
-overflow_mul-r c = record { fits = omega (arith, half_product c.requires.1 c.requires.1) }
 
 pub returns-then-r-n : goal.returns-then-r-n
 returns-then-r-n c = root_found c.if-r-n.true c.requires.3

@@ -8,5 +8,5 @@ pub returns : goal.returns
 returns c =
     record {
       moves_are = c.put_moves.ensures;
-      numbers_are = c.store_given_numbers.ensures ∙ sets_all (given_numbers c.args.g) c.args.numbers.now c.requires.1;
+      numbers_are = c.store_given_numbers.ensures ∙ sets_all (given_numbers c.args.g) c.args.numbers.now c.told-numbers;
     }

@@ -1,17 +1,16 @@
 -- `fullerecru::tapes::fullerecru_read_record`: the answer of `read_record` by its number.
 use mathlib.Core.Path.{sym, ap, ◌∙◌}
-use Rattle.display.specs.Display.{refused}
-use Rattle.tape.specs.Answers.{record_means}
+use Rattle.display.specs.Display.{outcome_of, refused}
 use Rattle.fullerecru.proofs.FromBytes.{block_given, block_refused}
 use Rattle.fullerecru.proofs.tapes.fullerecru_read_record.Goals as goal
 
-pub returns-in-Refused : goal.returns-in-Refused
-returns-in-Refused c =
+pub returns-in-Err : goal.returns-in-Err
+returns-in-Err c =
     let a = c.args in
     block_refused a.bytes.now a.moves.now a.numbers.now
-    (ap refused c.refusal_number.ensures ∙ ap record_means (sym c.in-Refused.is) ∙ c.read_record.ensures)
+    (ap refused c.refusal_number.ensures ∙ ap outcome_of (sym c.in-Err.is) ∙ c.read_record.ensures)
 
-pub returns-in-Read : goal.returns-in-Read
-returns-in-Read c =
+pub returns-in-Ok : goal.returns-in-Ok
+returns-in-Ok c =
     let a = c.args in
-    block_given a.bytes.now a.moves.now a.numbers.now (ap record_means (sym c.in-Read.is) ∙ c.read_record.ensures) c.put_block.ensures
+    block_given a.bytes.now a.moves.now a.numbers.now (ap outcome_of (sym c.in-Ok.is) ∙ c.read_record.ensures) c.put_block.ensures

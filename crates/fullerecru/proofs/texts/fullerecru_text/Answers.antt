@@ -2,10 +2,10 @@
 use Rattle.fullerecru.proofs.LentTexts.{text_written_lem, text_refused}
 use Rattle.fullerecru.proofs.texts.fullerecru_text.Goals as goal
 
-pub returns-in-Written : goal.returns-in-Written
-returns-in-Written c =
-    text_written_lem _ _ c.in-Written.count (rw c.in-Written.is at c.text_records.ensures) c.put_number.ensures c.put_number-in-Written.ensures
+pub returns-in-Ok : goal.returns-in-Ok
+returns-in-Ok c =
+    text_written_lem _ _ c.in-Ok.count (rw c.in-Ok.is at c.text_records.ensures) c.put_number.ensures c.put_number-in-Ok.ensures
 
-pub returns-in-Refused : goal.returns-in-Refused
-returns-in-Refused c =
-    text_refused _ _ _ c.in-Refused.why c.in-Refused.line (rw c.in-Refused.is at c.text_records.ensures) c.put_number-in-Refused.ensures c.refusal_number.ensures
+pub returns-in-Err : goal.returns-in-Err
+returns-in-Err c =
+    text_refused _ _ _ c.in-Err.fault (rw c.in-Err.is at c.text_records.ensures) c.refused_number.ensures.1 c.refused_number.ensures.0

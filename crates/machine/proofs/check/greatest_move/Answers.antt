@@ -8,6 +8,6 @@ use Rattle.machine.proofs.check.greatest_move.Goals as goal
 pub returns : goal.returns
 unfolding greatest_move
 returns c =
-    c.larger-2.ensures
-    ∙ ap (max c.moves_of-m.result.x) c.larger.ensures
+    c.max-2.ensures
+    ∙ ap (max c.moves_of-m.result.x) c.max.ensures
     ∙ ap (λ (m : Axes). max m.x (max m.y m.z)) c.moves_of-m.ensures

@@ -4,14 +4,9 @@ use Prim.Native.Nat.{ℕ, ◌+◌, ◌*◌}
 use Rattle.machine.specs.Numbers.{turn_from, corner_from, under_cap, corner_beside}
 use Rattle.machine.proofs.corner.corner_beside.Goals as goal
 
-pub under_corner-requires : goal.under_corner-requires
-under_corner-requires c =
-    let j = c.requires.0 in
-    (j.jump_below, j.first_length, j.second_length, j.first_moves, j.second_moves)
-
 pub returns : goal.returns
 unfolding corner_beside
 returns c =
     let a = c.args in
     let product = a.na.length * a.nb.length in
-    c.under_corner.ensures ∙ ap (λ (n : ℕ). under_cap (corner_from a.jump product (turn_from product a.a a.b)) (n + 1)) c.smaller-least.ensures
+    c.under_corner.ensures ∙ ap (λ (n : ℕ). under_cap (corner_from a.jump product (turn_from product a.a a.b)) (n + 1)) c.min-least.ensures

@@ -1,21 +1,12 @@
 -- `machine::corner::junction_cap` meets its contract, from the numbers of both blocks.
 use mathlib.Core.List.{[]}
-use mathlib.Core.Path.{◌≡◌, ap, sym, subst, ◌∙◌}
-use Rattle.machine.specs.Numbers.{LimitsBelow, numbers_of, junction_from, Joinable}
+use mathlib.Core.Path.{◌≡◌, ap, ◌∙◌}
+use Rattle.machine.specs.Numbers.{numbers_of, junction_from, Joinable}
 use Rattle.machine.specs.Torque.{machine_of}
 use Rattle.machine.specs.declared.Machine.{Machine}
 use Rattle.machine.proofs.Junctions.{junction_from_numbers, numbers_joinable}
 use Rattle.machine.proofs.corner.junction_cap.Goals as goal
 use Rattle.machine.proofs.corner.junction_cap.Goals.{After-built_in-m, After-numbers-na, After-numbers-nb}
-
-limited : (c : After-built_in-m) → LimitsBelow c.built_in-m.result.limits
-limited c = subst (λ (m : Machine). LimitsBelow m.limits) (sym c.built_in-m.ensures) c.requires.0
-
-pub numbers-na-requires : goal.numbers-na-requires
-numbers-na-requires c = (limited c, c.requires.1)
-
-pub numbers-nb-requires : goal.numbers-nb-requires
-numbers-nb-requires c = (limited c.before, c.requires.2)
 
 -- the numbers of both blocks
 first_is : (c : After-numbers-na) → let a = c.args in c.numbers-na.result ≡ numbers_of (machine_of a.l []) a.a

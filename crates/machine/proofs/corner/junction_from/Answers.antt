@@ -4,14 +4,9 @@ use Prim.Native.Nat.{◌*◌}
 use Rattle.machine.specs.Numbers.{turn_from, corner_from, under_cap, junction_from}
 use Rattle.machine.proofs.corner.junction_from.Goals as goal
 
-pub under_corner-requires : goal.under_corner-requires
-under_corner-requires c =
-    let p = c.requires in
-    (p.jump_below, p.first_length, p.second_length, p.first_moves, p.second_moves)
-
 pub returns : goal.returns
 unfolding junction_from
 returns c =
     let a = c.args in
     let product = a.na.length * a.nb.length in
-    c.under_corner.ensures ∙ ap (under_cap (corner_from a.jump product (turn_from product a.a a.b))) c.smaller-cap.ensures
+    c.under_corner.ensures ∙ ap (under_cap (corner_from a.jump product (turn_from product a.a a.b))) c.min-cap.ensures

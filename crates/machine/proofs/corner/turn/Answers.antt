@@ -10,9 +10,6 @@ use Rattle.machine.proofs.Dots.{dot_below, scaled_dot_below}
 use Rattle.machine.proofs.corner.turn.Goals as goal
 use Rattle.machine.proofs.corner.turn.Goals.{After-dot}
 
-pub dot-requires : goal.dot-requires
-dot-requires c = (c.requires.1, c.requires.2)
-
 -- what `dot` gives, with its size
 dot_small : (c : After-dot) → nat_abs c.dot.result < 2 ^ 44
 dot_small c = let s = c.before in rw c.dot.ensures (dot_below s.args.a s.args.b s.requires.1 s.requires.2)

@@ -4,7 +4,6 @@ use Prim.Native.Nat.{ℕ, ◌*◌, ◌^◌, ◌-◌, ◌<◌}
 use native.Mathlib.Nat.{mul-le-mul}
 use native.Mathlib.Omega.{arith}
 use Rattle.arith.specs.Quotient.{capped_quotient}
-use Rattle.arith.proofs.Division.{half_product}
 use Rattle.machine.proofs.Dots.{turn_below, corner_quotient, corner_straight}
 use Rattle.machine.proofs.corner.under_corner.Goals as goal
 use Rattle.machine.proofs.corner.under_corner.Goals.{Start}
@@ -12,19 +11,10 @@ use Rattle.machine.proofs.corner.under_corner.Goals.{Start}
 lengths : (c : Start) → c.args.length_a * c.args.length_b < 2 ^ 60
 lengths c = omega (arith, mul-le-mul {n₁ = c.args.length_a} {m₁ = c.args.length_b} {n₂ = 2 ^ 30 - 1} {m₂ = 2 ^ 30 - 1} (omega (arith, c.requires.1)) (omega (arith, c.requires.2)))
 
-pub overflow_mul-product : goal.overflow_mul-product
-overflow_mul-product c = record { fits = omega (arith, lengths c) }
-
-pub turn-turned-requires : goal.turn-turned-requires
-turn-turned-requires c = (omega (arith, lengths c), c.requires.3, c.requires.4)
-
 pub returns-then-turned-eq0 : goal.returns-then-turned-eq0
 returns-then-turned-eq0 c =
     let a = c.args in
     sym (corner_straight a.cap a.jump (a.length_a * a.length_b) _ (sym c.turn-turned.ensures ∙ c.if-turned-eq0.true))
-
-pub overflow_mul-jump : goal.overflow_mul-jump
-overflow_mul-jump c = record { fits = omega (arith, half_product c.requires.0 c.requires.0) }
 
 pub overflow_mul-turned : goal.overflow_mul-turned
 overflow_mul-turned c =

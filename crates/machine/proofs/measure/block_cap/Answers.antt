@@ -2,21 +2,13 @@
 use mathlib.Core.Path.{sym, ap, ◌∙◌}
 use Prim.Native.Nat.{ℕ, ◌*◌}
 use borrow.Author.Tests.{eq-eqb, ne_eqb}
-use native.Mathlib.Omega.{arith}
 use Rattle.arith.specs.Quotient.{capped_quotient}
-use Rattle.arith.proofs.Division.{half_product}
 use Rattle.machine.specs.Numbers.{block_cap_from}
 use Rattle.machine.proofs.measure.block_cap.Goals as goal
-
-pub overflow_mul-square : goal.overflow_mul-square
-overflow_mul-square c = record { fits = omega (arith, half_product {x = c.args.speed} {y = c.args.speed} (omega arith) (omega arith)) }
 
 pub returns-then-radius-eq0 : goal.returns-then-radius-eq0
 unfolding block_cap_from
 returns-then-radius-eq0 c = simp (eq-eqb _ _ c.if-radius-eq0.true)
-
-pub overflow_mul-l : goal.overflow_mul-l
-overflow_mul-l c = record { fits = omega (arith, half_product c.requires.0.4 c.requires.0.4) }
 
 pub returns : goal.returns
 unfolding block_cap_from

@@ -7,9 +7,6 @@ use Rattle.machine.proofs.Limited.{axis_below}
 use Rattle.machine.proofs.measure.each_axis.Goals as goal
 use Rattle.machine.proofs.measure.each_axis.Goals.{After-axis_limit-x, After-axis_limit-y}
 
-pub axis_limit-x-requires : goal.axis_limit-x-requires
-axis_limit-x-requires c = (c.requires.0, c.requires.2.0, c.requires.1, c.requires.3.0)
-
 first_below : (c : After-axis_limit-x) → c.axis_limit-x.result < 2 ^ 32
 first_below c = let a = c.args in omega (arith, c.axis_limit-x.ensures, axis_below a.cap a.limits.x a.length a.m.x, c.requires.0)
 

@@ -25,9 +25,6 @@ small_length c = rw c.length_of-length.ensures (length_below c.moves_of-moves.re
 length_is : (c : After-length_of-length) → c.length_of-length.result ≡ length_of c.args.b
 length_is c = c.length_of-length.ensures ∙ ap length_from c.moves_of-moves.ensures
 
-pub speed_of-speed-requires : goal.speed_of-speed-requires
-speed_of-speed-requires c = (c.requires.0, c.requires.1, length_is c)
-
 small_speed : (c : After-speed_of-speed) → c.speed_of-speed.result ≤ most_feed
 small_speed c =
     let s = c.before.before.before.before in

@@ -1,13 +1,9 @@
--- `machine::torque::is_falling` meets its contract: before step k those before it have passed, and `most` is the last of them. From the laws of steps.
+-- `machine::torque::is_falling`: the steps before the next one have passed, and `most` is the last of them.
 use mathlib.Core.Path.{◌≡◌}
-use Prim.Native.Nat.{◌-◌, ◌≤◌}
-use lib.ListN.{length, drop}
+use lib.ListN.{drop}
 use Rattle.machine.specs.Ranges.{most_percent}
 use Rattle.machine.specs.Torque.{falling}
 use Rattle.machine.proofs.torque.is_falling.Given as goal
 
-abbrev pub invariant-loop-k : goal.invariant-loop-k
-invariant-loop-k l = (l.k ≤ length l.steps) × (falling most_percent l.steps ≡ falling l.most (drop l.k l.steps))
-
-abbrev pub decreases-loop-k : goal.decreases-loop-k
-decreases-loop-k l = length l.steps - l.k
+abbrev pub invariant-loop-step : goal.invariant-loop-step
+invariant-loop-step l = falling most_percent l.steps ≡ falling l.most (drop l.step-index l.steps)

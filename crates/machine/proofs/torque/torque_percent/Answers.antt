@@ -18,5 +18,5 @@ pub returns : goal.returns
 unfolding torque_percent
 returns c =
     let torque = c.args.torque in
-    let e = highest torque (c.less.result / 125_000) (omega (arith, c.less.ensures, c.requires)) in
-    (e ∙ ap (λ (n : ℕ). torque / 2 ^ (8 * (7 - n / 125_000)) % 256) c.less.ensures, omega arith)
+    let e = highest torque (c.saturating_sub.result / 125_000) (omega (arith, c.saturating_sub.ensures, c.requires)) in
+    (e ∙ ap (λ (n : ℕ). torque / 2 ^ (8 * (7 - n / 125_000)) % 256) c.saturating_sub.ensures, omega arith)

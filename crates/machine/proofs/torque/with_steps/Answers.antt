@@ -1,7 +1,7 @@
 -- `machine::torque::with_steps` meets its contract, by the tests of loaded steps.
 use mathlib.Core.Path.{sym, ap, ◌∙◌}
 use Prim.Native.Nat.{ℕ}
-use native.Mathlib.Omega.{arith}
+use borrow.Author.Rules.{rules}
 use Rattle.display.specs.Display.{given}
 use Rattle.display.specs.declared.Refusal.TheVariants as why
 use Rattle.display.proofs.Answers.{gives, refuses_by}
@@ -9,17 +9,17 @@ use Rattle.machine.specs.Torque.{steps_refusal, machine_of}
 use Rattle.machine.proofs.TorqueLaws.{loaded_none, loaded_uneven, loaded_rising, loaded_passes, loaded_serve, steps_none}
 use Rattle.machine.proofs.torque.with_steps.Goals as goal
 
-pub returns-then-steps-eq0 : goal.returns-then-steps-eq0
-returns-then-steps-eq0 c =
+pub returns-then-is_empty : goal.returns-then-is_empty
+returns-then-is_empty c =
     let a = c.args in
     let s = a.steps.now in
-    let none = loaded_none s c.if-steps-eq0.true in
+    let none = loaded_none s (search rules) in
     ap given c.built_in.ensures ∙ gives (machine_of a.l s) (steps_refusal s) (ap steps_refusal none ∙ steps_none) (ap (machine_of a.l) (sym none))
 
 pub returns-then-steps-ne-STEPS : goal.returns-then-steps-ne-STEPS
 returns-then-steps-ne-STEPS c =
     let a = c.args in
-    refuses_by (machine_of a.l a.steps.now) why.Steps (loaded_uneven a.steps.now (omega (arith, c.if-steps-eq0.false)) c.if-steps-ne-STEPS.true)
+    refuses_by (machine_of a.l a.steps.now) why.Steps (loaded_uneven a.steps.now (search rules) c.if-steps-ne-STEPS.true)
 
 pub returns-then-not-is_falling : goal.returns-then-not-is_falling
 returns-then-not-is_falling c =

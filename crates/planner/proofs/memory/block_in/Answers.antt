@@ -8,7 +8,7 @@ use Rattle.planner.proofs.memory.block_in.Goals as goal
 pub returns : goal.returns
 unfolding place_from
 returns c =
-    block_is 64 (place_from c.args.memory.now c.args.at) _ _ _ _ c.labelled_block.ensures
-    (field_back c.signed_word-x.result c.signed_word-x.type_inv ∙ c.signed_word-x.ensures)
-    (field_back c.signed_word-y.result c.signed_word-y.type_inv ∙ c.signed_word-y.ensures)
-    (field_back c.signed_word-z.result c.signed_word-z.type_inv ∙ c.signed_word-z.ensures)
+    block_is 64 (place_from c.args.memory.now c.args.at.base) _ _ _ _ c.labelled_block.ensures
+    (field_back c.signed_word.result c.signed_word.type_inv ∙ c.signed_word.ensures)
+    (field_back c.signed_word-2.result c.signed_word-2.type_inv ∙ c.signed_word-2.ensures)
+    (field_back c.signed_word-3.result c.signed_word-3.type_inv ∙ c.signed_word-3.ensures)

@@ -8,7 +8,7 @@ use Rattle.planner.proofs.memory.cut_block_in.Goals as goal
 pub returns : goal.returns
 unfolding place_from
 returns c =
-    block_is 21 (place_from c.args.memory.now c.args.at) _ _ _ _ c.labelled_block.ensures
-    (field_back c.to_signed-x.result c.to_signed-x.type_inv ∙ c.to_signed-x.ensures)
-    (field_back c.to_signed-y.result c.to_signed-y.type_inv ∙ c.to_signed-y.ensures)
-    (field_back c.to_signed-z.result c.to_signed-z.type_inv ∙ c.to_signed-z.ensures)
+    block_is 21 (place_from c.args.memory.now c.args.at.base) _ _ _ _ c.labelled_block.ensures
+    (field_back c.to_signed.result c.to_signed.type_inv ∙ c.to_signed.ensures)
+    (field_back c.to_signed-2.result c.to_signed-2.type_inv ∙ c.to_signed-2.ensures)
+    (field_back c.to_signed-3.result c.to_signed-3.type_inv ∙ c.to_signed-3.ensures)

@@ -1,4 +1,4 @@
--- `planner::ring::brake_pass`: from junction k on the list holds the backward pass. From the laws of the pass in place, with the numbers read for block k. The measure is k.
+-- `planner::ring::brake_pass`: from junction k on the list holds the backward pass. From the laws of the pass in place, with the numbers read for block k.
 use Rattle.std.proofs.Common.{◌≡◌, ℕ, ◌+◌, ◌-◌, ◌<◌, ◌≤◌, List, length, set, sym, arith, rules}
 use Rattle.profile.specs.Line.{number_at}
 use Rattle.profile.specs.Passes.{Braked, brake_from}
@@ -21,17 +21,16 @@ turn m list n k at v sized p h here e b =
 pub loop-k-init : goal.loop-k-init
 loop-k-init c =
     let all = spans_in_length (view_of c.args.memory.now) c.args.n 0 in
-    (search rules, search rules, store_end (spans_in (view_of c.args.memory.now) c.args.n 0) c.args.list.now (omega arith) _ (sym all))
+    (search rules, store_end (spans_in (view_of c.args.memory.now) c.args.n 0) c.args.list.now (omega arith) _ (sym all))
 
 pub loop-k-preserved : goal.loop-k-preserved
 unfolding view_of
 loop-k-preserved c = (
   search rules,
-  search rules,
-  turn c.args.memory.now c.loop-k.list c.args.n c.loop-k.k c.place.result _ c.loop-k.invariant.1 (search rules) c.loop-k.invariant.0
-      c.place.ensures.0 c.brake_at.ensures c.loop-k.invariant.2,
+  turn c.args.memory.now c.loop-k.list c.args.n c.loop-k.k c.place.result.base _ c.loop-k.invariant.0 c.loop-k-test.true c.loop-k.auto.k
+      c.place.ensures c.brake_at.ensures c.loop-k.invariant.1,
 )
 
 pub returns : goal.returns
 returns c =
-    record { sized = c.loop-k.invariant.1; braked = λ i p. c.loop-k.invariant.2 i (omega arith) }
+    record { sized = c.loop-k.invariant.0; braked = λ i p. c.loop-k.invariant.1 i (omega arith) }

@@ -1,5 +1,5 @@
--- `planner::ring::brake_pass`: from junction k on the list holds the backward pass. From the laws of the pass in place, with the numbers read for block k. The measure is k.
-use Rattle.std.proofs.Common.{◌≡◌, ◌+◌, ◌≤◌, length}
+-- `planner::ring::brake_pass`: from junction k on the list holds the backward pass. From the laws of the pass in place, with the numbers read for block k.
+use Rattle.std.proofs.Common.{◌≡◌, ◌+◌, length}
 use Rattle.profile.specs.Line.{number_at}
 use Rattle.profile.specs.Passes.{Braked}
 use Rattle.line.specs.Ring.{spans_in}
@@ -7,7 +7,4 @@ use Rattle.planner.specs.View.{view_of}
 use Rattle.planner.proofs.ring.brake_pass.Given as goal
 
 abbrev pub invariant-loop-k : goal.invariant-loop-k
-invariant-loop-k l = (l.k ≤ l.n) × (length l.list ≡ l.n + 1) × Braked (spans_in (view_of l.memory) l.n 0) (number_at l.list) l.k
-
-abbrev pub decreases-loop-k : goal.decreases-loop-k
-decreases-loop-k l = l.k
+invariant-loop-k l = (length l.list ≡ l.n + 1) × Braked (spans_in (view_of l.memory) l.n 0) (number_at l.list) l.k

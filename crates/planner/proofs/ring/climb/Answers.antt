@@ -1,26 +1,17 @@
 -- `planner::ring::climb`: one law for each way out.
-use Rattle.std.proofs.Common.{◌≡◌, ℕ, zero, suc, ◌+◌, ◌%◌, ◌^◌, ◌<◌, length, refl, ap, arith}
+use Rattle.std.proofs.Common.{◌≡◌, ℕ, zero, suc, ◌+◌, ◌%◌, ◌^◌, ◌<◌, refl, ap, arith}
 use Rattle.profile.specs.declared.Stay.{Stay}
-use Rattle.profile.specs.Stairs.{stair}
 use Rattle.profile.proofs.Stays.{stay_few}
 use Rattle.line.specs.Blocks.{most_held}
 use Rattle.line.specs.Ring.{stair_at}
-use Rattle.planner.specs.View.{memory_size, stair_numbers, view_of}
+use Rattle.planner.specs.View.{view_of}
 use Rattle.planner.proofs.Climbs.{climbed_first, climbed_more}
-use Rattle.planner.proofs.Blocks.{still_sized}
 use Rattle.planner.proofs.ring.climb.Goals as goal
 use Rattle.planner.proofs.ring.climb.Goals.{After-stay-w, After-store_stair}
 
 pub returns-then-held-eq0 : goal.returns-then-held-eq0
 returns-then-held-eq0 c =
     climbed_first c.args.memory.now c.store_end.new.memory c.args.held c.args.cap c.args.reach c.if-held-eq0.true c.store_end.ensures
-
--- the places behind each call, from the one where the junction is stored
-module _ (c : After-store_stair) where
-  stored : length c.store_stair.new.memory ≡ memory_size
-  stored =
-      still_sized c.args.memory.now c.store_stair.new.memory c.stair_place-at.result (stair_numbers (stair c.less.result c.args.cap))
-      c.requires c.store_stair.ensures
 
 -- fewer stairs stay than there are places
 few : (c : After-stay-w) → c.stay-w.result.count < most_held
@@ -33,15 +24,12 @@ above : (n : ℕ) → (n ≡ 0 → ⊥) → 0 < n
 above zero h = absurd (h refl)
 above (suc n) h = omega arith
 
-pub store_end-requires-2 : goal.store_end-requires-2
-store_end-requires-2 c = stored c.before.before.before.before.before.before
-
 pub returns : goal.returns
 unfolding view_of
 returns c =
     climbed_more c.args.memory.now c.store_stair.new.memory c.store_end-2.new.memory c.args.held c.args.cap c.args.reach c.stair_place-at.result
-    c.less.result c.wrapping_add_u64-total.result c.stay-w.result c.requires (above c.args.held c.if-held-eq0.false) c.stay-w.ensures
-    c.stair_place-at.ensures.0 c.less.ensures c.store_stair.ensures c.wrapping_add_u64-total.ensures.value c.store_end-2.ensures
+    c.saturating_sub.result _ c.stay-w.result c.told-memory (above c.args.held c.if-held-eq0.false) c.stay-w.ensures
+    c.stair_place-at.ensures.0 c.saturating_sub.ensures c.store_stair.ensures refl c.store_end-2.ensures
 
 pub overflow_add-w : goal.overflow_add-w
-overflow_add-w c = record { fits = omega (arith, few c.before.before.before.before.before.before.before.before.before.before.before) }
+overflow_add-w c = record { fits = omega (arith, few (goal.at.overflow_add-w c).After-stay-w) }

@@ -10,4 +10,4 @@ unfolding view_of
 returns c =
     c.exit_from.ensures
     ∙ ap (exit_from c.args.entry c.args.reach)
-    (c.less.ensures ∙ ap (λ (n : ℕ). n - c.args.reach) (start_is c.args.memory.now c.stair_place-at.result c.brake_from-start.result c.stair_place-at.ensures.0 c.brake_from-start.ensures))
+    (c.saturating_sub.ensures ∙ ap (λ (n : ℕ). n - c.args.reach) (start_is c.args.memory.now c.stair_place-at.result c.brake_from-start.result c.stair_place-at.ensures.0 c.brake_from-start.ensures))

@@ -1,4 +1,4 @@
--- `planner::ring::forward_pass`: up to junction k the list holds the forward pass, behind it the backward pass. From the laws of the passes in place, with the reach read of block k. The measure is what is left.
+-- `planner::ring::forward_pass`: up to junction k the list holds the forward pass, behind it the backward pass. From the laws of the passes in place, with the reach read of block k.
 use Rattle.std.proofs.Common.{◌≡◌, ℕ, ◌+◌, ◌<◌, ◌≤◌, List, length, set, arith, length-set, rules}
 use Rattle.profile.specs.Line.{number_at}
 use Rattle.profile.specs.Passes.{exit_from, forward}
@@ -27,9 +27,8 @@ unfolding view_of
 loop-k-init c =
     let m = c.args.memory.now in
     let all = spans_in_length (view_of m) c.args.n 0 in (
-      search rules,
-      rw length-set c.requires.1.sized,
-      in_place_first (spans_in (view_of m) c.args.n 0) c.args.list.now (omega (arith, c.requires.1.sized)) (view_of m).committed c.requires.1.braked,
+      rw length-set c.requires.sized,
+      in_place_first (spans_in (view_of m) c.args.n 0) c.args.list.now (omega (arith, c.requires.sized)) (view_of m).committed c.requires.braked,
     )
 
 pub loop-k-preserved : goal.loop-k-preserved
@@ -37,11 +36,10 @@ unfolding view_of
 loop-k-preserved c =
     let m = c.args.memory.now in (
       search rules,
-      search rules,
-      turn m c.loop-k.list c.args.n (view_of m).committed c.loop-k.k c.place.result c.reach_at-reach.result _ c.loop-k.invariant.1 (search rules)
-          c.place.ensures.0 c.reach_at-reach.ensures c.exit_from.ensures c.loop-k.invariant.2,
+      turn m c.loop-k.list c.args.n (view_of m).committed c.loop-k.k c.place.result.base c.reach_at-reach.result _ c.loop-k.invariant.0 (search rules)
+          c.place.ensures c.reach_at-reach.ensures c.exit_from.ensures c.loop-k.invariant.1,
     )
 
 pub returns : goal.returns
 returns c =
-    ends c.args.memory.now c.loop-k.list c.args.n (view_of c.args.memory.now).committed c.loop-k.k c.loop-k.invariant.1 (search rules) c.loop-k.invariant.2
+    ends c.args.memory.now c.loop-k.list c.args.n (view_of c.args.memory.now).committed c.loop-k.k c.loop-k.invariant.0 (search rules) c.loop-k.invariant.1

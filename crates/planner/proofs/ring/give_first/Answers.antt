@@ -14,14 +14,14 @@ module _ (c : After-lower) where
   lower_sized : length c.lower.new.memory ≡ memory_size
   lower_sized = c.lower.ensures.sized
 
-  leaves : c.exit_in-exit.result ≡ exit_from (view_of c.args.memory.now).committed (place_from c.args.memory.now c.place-at.result).reach
-      (start_in (view_of c.args.memory.now) - (place_from c.args.memory.now c.place-at.result).reach)
+  leaves : c.exit_in-exit.result ≡ exit_from (view_of c.args.memory.now).committed (place_from c.args.memory.now c.place-at.result.base).reach
+      (start_in (view_of c.args.memory.now) - (place_from c.args.memory.now c.place-at.result.base).reach)
   unfolding view_of
   leaves =
       c.exit_in-exit.ensures
       ∙ ap (λ (n : Numbers). exit_from (view_of c.args.memory.now).committed n.reach (start_in (view_of c.args.memory.now) - n.reach)) c.numbers_in-n.ensures
 
-  low : Memory (lowered (view_of c.args.memory.now) (place_from c.args.memory.now c.place-at.result).reach) c.lower.new.memory
+  low : Memory (lowered (view_of c.args.memory.now) (place_from c.args.memory.now c.place-at.result.base).reach) c.lower.new.memory
   low = record {
     sized = c.lower.ensures.sized;
     view = c.lower.ensures.view ∙ ap (λ (n : Numbers). lowered (view_of c.args.memory.now) n.reach) c.numbers_in-n.ensures;
@@ -29,26 +29,20 @@ module _ (c : After-lower) where
 
 pub overflow_sub-memory : goal.overflow_sub-memory
 unfolding view_of
-overflow_sub-memory c = omega (arith, c.requires.1)
+overflow_sub-memory c = omega (arith, c.requires)
 
 pub returns : goal.returns
 unfolding view_of
 returns c =
     let m = c.args.memory.now in
-    let at = c.place-at.result in
+    let at = c.place-at.result.base in
     let exit = c.exit_in-exit.result in
     record {
       given =
-          given_is m at exit c.place-at.ensures.0 (leaves c.before.before.before) c.given_between.result c.block_in-block.result c.numbers_in-n.result
+          given_is m at exit c.place-at.ensures (leaves (goal.at.returns c).After-lower) c.given_between.result c.block_in-block.result c.numbers_in-n.result
           c.block_in-block.ensures c.numbers_in-n.ensures c.given_between.ensures;
       held = record {
-        sized = simp length-set (lower_sized c.before.before.before);
-        view = taken_is m at exit c.place-at.ensures.0 (leaves c.before.before.before) c.lower.new.memory (low c.before.before.before);
+        sized = simp length-set (lower_sized (goal.at.returns c).After-lower);
+        view = taken_is m at exit c.place-at.ensures (leaves (goal.at.returns c).After-lower) c.lower.new.memory (low (goal.at.returns c).After-lower);
       };
     }
-
-pub bounds-memory-10-2 : goal.bounds-memory-10-2
-bounds-memory-10-2 c = simp length-set (omega (arith, lower_sized c.before.before))
-
-pub bounds-memory-11-2 : goal.bounds-memory-11-2
-bounds-memory-11-2 c = simp length-set (omega (arith, lower_sized c.before.before))

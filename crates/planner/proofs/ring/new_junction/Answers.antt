@@ -10,18 +10,18 @@ returns-then-count-eq0 c = simp (eq-eqb _ _ c.if-count-eq0.true)
 
 pub junction_from-requires : goal.junction_from-requires
 junction_from-requires c =
-    let held = place_from c.args.memory.now c.place-at.result in
+    let held = place_from c.args.memory.now c.place-at.result.base in
     record {
-      jump_below = c.requires.1;
+      jump_below = c.requires.0;
       first_length = rw c.cut_numbers_in-held.ensures (mod-lt held.length (lit< tt));
-      second_length = c.requires.2;
+      second_length = c.requires.1;
       first_moves = rw c.cut_block_in-before.ensures (moves_in held);
-      second_moves = c.requires.3;
+      second_moves = c.requires.2;
     }
 
 pub returns : goal.returns
 unfolding view_of
 returns c =
     let a = c.args in
-    junction_is a.memory.now c.place-at.result a.jump a.b a.n c.junction_from.result c.cut_block_in-before.result c.cut_numbers_in-held.result
-    c.place-at.ensures.0 c.if-count-eq0.false c.cut_block_in-before.ensures c.cut_numbers_in-held.ensures c.junction_from.ensures
+    junction_is a.memory.now c.place-at.result.base a.jump a.b a.n c.junction_from.result c.cut_block_in-before.result c.cut_numbers_in-held.result
+    c.place-at.ensures c.if-count-eq0.false c.cut_block_in-before.ensures c.cut_numbers_in-held.ensures c.junction_from.ensures

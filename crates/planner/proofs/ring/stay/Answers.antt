@@ -8,7 +8,7 @@ use Rattle.planner.proofs.ring.stay.Goals.{After-stair_place-at}
 pub loop-s-init : goal.loop-s-init
 unfolding view_of
 loop-s-init c =
-    (omega arith, stay_begins c.args.memory.now _ c.wrapping_add_u64-allows.result c.stair_place-end.result c.args.cap refl c.stair_place-end.ensures.0 c.wrapping_add_u64-allows.ensures.value)
+    (omega arith, stay_begins c.args.memory.now _ _ c.stair_place-end.result c.args.cap refl c.stair_place-end.ensures.0 refl)
 
 -- where the stair before the last that is left begins
 module _ (c : After-stair_place-at) where
@@ -19,7 +19,7 @@ pub loop-s-preserved : goal.loop-s-preserved
 unfolding view_of
 loop-s-preserved c = (
   omega (arith, c.loop-s.invariant.0),
-  stay_goes_on c.args.memory.now c.loop-s.s (c.loop-s.s - 1) c.loop-s.allows c.stair_place-at.result (one (goal.at.loop-s-preserved c).After-stair_place-at) c.stair_place-at.ensures.0 c.wrapping_add_u64-allows-in-loop-s.result c.if-memory-at.false c.wrapping_add_u64-allows-in-loop-s.ensures.value
+  stay_goes_on c.args.memory.now c.loop-s.s (c.loop-s.s - 1) c.loop-s.allows c.stair_place-at.result (one (goal.at.loop-s-preserved c).After-stair_place-at) c.stair_place-at.ensures.0 _ c.if-memory-at.false refl
       ∙ c.loop-s.invariant.1,
 )
 

@@ -7,4 +7,4 @@ pub returns : goal.returns
 unfolding view_of
 returns c =
     ended_is c.args.memory.now c.store_stair.new.memory c.args.before c.args.reach c.args.total c.stair_place-at.result
-    c.requires c.stair_place-at.ensures.0 c.store_stair.ensures
+    c.told-memory c.stair_place-at.ensures.0 c.store_stair.ensures

@@ -1,21 +1,18 @@
--- `replay::calls::write_row` meets its contract: each case of the answer has its row.
-use mathlib.Core.Path.{sym, ap, ◌∙◌}
-use Rattle.line.specs.Answers.{answer_means}
-use Rattle.line.specs.declared.Answer.{Answer}
+-- `replay::calls::write_row`: each case of the answer has its row.
+use mathlib.Core.Path.{ap, ◌∙◌}
 use Rattle.replay.specs.Rows.{row_from, row_of}
 use Rattle.replay.proofs.calls.write_row.Goals as goal
 
-pub returns-in-Accepted : goal.returns-in-Accepted
+pub returns-in-None : goal.returns-in-None
 unfolding row_of
-returns-in-Accepted c =
-    c.store_row.ensures ∙ ap (row_from 0) c.no_given.ensures ∙ ap (λ (a : Answer). row_of (answer_means a)) (sym c.in-Accepted.is)
+returns-in-None c =
+    rw (c.in-Ok.is, c.in-None.is) (c.store_row.ensures ∙ ap (row_from 0) c.no_given.ensures)
 
-pub returns-in-Gave : goal.returns-in-Gave
+pub returns-in-Some : goal.returns-in-Some
 unfolding row_of
-returns-in-Gave c =
-    c.store_row-in-Gave.ensures ∙ ap (λ (a : Answer). row_of (answer_means a)) (sym c.in-Gave.is)
+returns-in-Some c = rw (c.in-Ok.is, c.in-Some.is) c.store_row-in-Some.ensures
 
-pub returns-in-Refused : goal.returns-in-Refused
+pub returns-in-Err : goal.returns-in-Err
 unfolding row_of
-returns-in-Refused c =
-    c.store_row-in-Refused.ensures ∙ (λ i. row_from (c.refusal_number.ensures i) (c.no_given-in-Refused.ensures i)) ∙ ap (λ (a : Answer). row_of (answer_means a)) (sym c.in-Refused.is)
+returns-in-Err c =
+    rw c.in-Err.is (c.store_row-in-Err.ensures ∙ (λ i. row_from (c.refusal_number.ensures i) (c.no_given-in-Err.ensures i)))

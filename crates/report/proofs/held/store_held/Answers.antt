@@ -1,5 +1,5 @@
 -- `report::held::store_held`: what is left to store leads to the end. From the laws of copies and of lists.
-use Rattle.std.proofs.Common.{◌+◌, length, sym, refl, ◌∙◌, arith, rules}
+use Rattle.std.proofs.Common.{◌+◌, length, sym, ◌∙◌, arith, rules}
 use Rattle.profile.specs.Line.{number_at}
 use Rattle.report.proofs.Copies.{copy_all}
 use Rattle.report.specs.Rows.{held_from, row_held}
@@ -7,25 +7,19 @@ use Rattle.report.proofs.Rows.{held_between, list_length, list_next, over_all}
 use Rattle.report.proofs.held.store_held.Invariants.{target}
 use Rattle.report.proofs.held.store_held.Goals as goal
 
-pub loop-i-init : goal.loop-i-init
-loop-i-init c = (omega arith, refl, refl)
-
 pub loop-i-preserved : goal.loop-i-preserved
 loop-i-preserved c =
     let a = c.args in
     let i = c.loop-i.i in
     let stored =
-    c.held_by.ensures ∙ (λ j. held_from (c.measured_at-a.ensures j) (c.measured_at-b.ensures j) (number_at a.plan.now (i + 1)))
-    ∙ held_between a.sheet.now a.plan.now i in (
-      search rules,
-      search rules,
-      list_next (row_held a.sheet.now a.plan.now) a.list.now c.loop-i.list i c.held_by.result (search rules) stored c.loop-i.invariant.2,
-    )
+    c.number.ensures ∙ c.held_by.ensures ∙ (λ j. held_from (c.row-a.ensures j) (c.row-b.ensures j) (number_at a.tape.plan.now (i + 1)))
+    ∙ held_between a.tape.sheet.now a.tape.plan.now i in
+    list_next (row_held a.tape.sheet.now a.tape.plan.now) a.list.now c.loop-i.list i _ (search rules) stored c.loop-i.invariant
 
 pub returns : goal.returns
 returns c =
     let a = c.args in
-    let end = target a.sheet.now a.plan.now a.list.now in
-    let size = list_length (row_held a.sheet.now a.plan.now) 0 (length a.list.now) in
-    copy_all end a.list.now c.loop-i.list c.loop-i.i (omega (arith, size)) (omega (arith, size, c.loop-i.invariant, c.loop-i-test.false)) c.loop-i.invariant.2
+    let end = target a.tape.sheet.now a.tape.plan.now a.list.now in
+    let size = list_length (row_held a.tape.sheet.now a.tape.plan.now) 0 (length a.list.now) in
+    copy_all end a.list.now c.loop-i.list c.loop-i.i (omega (arith, size)) (omega (arith, size)) c.loop-i.invariant
     ∙ over_all end a.list.now (sym size)

@@ -1,6 +1,6 @@
 -- `report::tapes::figures_of`: the answer of planning decides. From the laws of an accepted tape's figures.
-use Rattle.std.proofs.Common.{sym, refl, ap, ◌∙◌, subst}
-use Rattle.tapeplan.specs.Planned.{planned_means, whole_fault}
+use Rattle.std.proofs.Common.{◌≡◌, rules, sym, refl, ap, ◌∙◌, subst, Err}
+use Rattle.tapeplan.specs.Planned.{whole_fault}
 use Rattle.report.specs.Figures.{figures_of, tape_figures}
 use Rattle.report.specs.Rows.{Countable, row_figures}
 use Rattle.tapeplan.proofs.Wholes.{planned_passed}
@@ -8,23 +8,24 @@ use Rattle.report.proofs.Accepted.{planned_countable, planned_figures}
 use Rattle.report.proofs.Answers.{figured_given, figured_refused}
 use Rattle.report.proofs.tapes.figures_of.Goals as goal
 
-pub returns-in-Refused : goal.returns-in-Refused
+pub returns-in_err-plan_on_work_sheet : goal.returns-in_err-plan_on_work_sheet
 unfolding tape_figures
-returns-in-Refused c =
+returns-in_err-plan_on_work_sheet c =
     let a = c.args in
-    figured_refused (whole_fault a.s.now a.steps.now) (figures_of a.s.now a.steps.now) c.in-Refused.why c.in-Refused.place
-    (sym (ap planned_means c.in-Refused.is) ∙ c.plan_on_work_sheet.ensures.fault)
+    let r = c.in_err-plan_on_work_sheet.field-0.0 in
+    let e : c.from_residual.result ≡ Err r = search rules in
+    rw e (figured_refused (whole_fault a.s.now a.steps.now) (figures_of a.s.now a.steps.now) r.why r.place (c.in_err-plan_on_work_sheet.ensures).fault)
 
 -- a tape that is planned
 pub count_rows-requires : goal.count_rows-requires
 count_rows-requires c =
-    subst (Countable _ _) (sym c.records_in.ensures) (planned_countable c.plan_on_work_sheet.ensures c.in-Planned.is refl)
+    subst (Countable _ _) (sym c.records_in.ensures) (planned_countable c.plan_on_work_sheet.ensures c.in_ok-plan_on_work_sheet.was refl)
 
-pub returns-in-Planned : goal.returns-in-Planned
+pub returns : goal.returns
 unfolding tape_figures
-returns-in-Planned c =
+returns c =
     let w = c.plan_on_work_sheet.ensures in
-    let is = c.in-Planned.is in
+    let is = c.in_ok-plan_on_work_sheet.was in
     let a = c.args in
     figured_given (whole_fault a.s.now a.steps.now) (figures_of a.s.now a.steps.now) (planned_passed w is)
     (c.count_rows.ensures ∙ ap (row_figures _ _) c.records_in.ensures ∙ planned_figures w is)

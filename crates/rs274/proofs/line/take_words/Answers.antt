@@ -2,59 +2,53 @@
 use mathlib.Core.Path.{◌≡◌, sym, ap, subst, ◌∙◌}
 use mathlib.Core.List.{List}
 use Prim.Native.Nat.{◌^◌}
+use Rattle.std.proofs.Common.{rules, Result, Ok, Err}
+use Rattle.std.specs.Prelude.{⊤}
+use Rattle.display.specs.declared.Refusal.{Refusal}
 use Rattle.machine.specs.declared.Block.{Block}
 use Rattle.words.specs.Words.{Words, words_in}
 use Rattle.rs274.specs.Bounds.{Within}
-use Rattle.rs274.specs.Kept.{Holds, Keeps, Takes}
+use Rattle.rs274.specs.Kept.{Keeps, Takes}
 use Rattle.rs274.specs.Modal.{modal_after, block_between}
 use Rattle.rs274.specs.Text.{run_of, with_block, with_words}
-use Rattle.rs274.specs.declared.Kept.{Kept}
-use Rattle.rs274.specs.declared.LineTaken.TheVariants as taken
 use Rattle.rs274.specs.declared.Modal.{Modal}
 use Rattle.rs274.proofs.Positions.{near_within, within_more, within_after}
 use Rattle.rs274.proofs.Keeping.{takes_next, takes_refused}
 use Rattle.rs274.proofs.line.take_words.Goals as goal
 use Rattle.rs274.proofs.line.take_words.Goals.{After-keep}
 
--- what stands in the lists that are lent
-abbrev words : After-keep → Words
-words k = words_in k.args.stands.now k.args.values.now
-
 pub modal_after-next-requires : goal.modal_after-next-requires
-modal_after-next-requires c =
-    (c.requires.0, (c.requires.1.0, near_within c.requires.1.1.1.1 c.requires.1.1.0))
+modal_after-next-requires c = (c.requires.0, near_within c.args.kept.now.few c.requires.1)
 
 pub block_between-requires : goal.block_between-requires
 block_between-requires c =
-    let m = c.args.m in
-    let here = near_within c.requires.1.1.1.1 c.requires.1.1.0 in
-    let w = words_in c.args.stands.now c.args.values.now in
-    (within_more here, subst (λ (n : Modal). Within (2 ^ 41) n) (sym c.modal_after-next.ensures) (within_after m w c.requires.1.0 here))
+    let here = near_within c.args.kept.now.few c.requires.1 in
+    (within_more here, subst (λ (n : Modal). Within (2 ^ 41) n) (sym c.modal_after-next.ensures) (within_after c.args.m (words_in c.args.words.now) c.requires.0 here))
 
--- what becomes of the block between the two positions
-kept_here : (k : After-keep) (blocks : List Block) → Holds k.args.made.now k.args.count blocks
-    → {r : Kept} → k.keep.result ≡ r
-    → Keeps
-    (with_block (block_between k.args.m (modal_after k.args.m (words k)) k.args.place) blocks)
-    r
-    k.keep.new.made
-kept_here k blocks h {r} e =
-    let m = k.args.m in
-    let is : k.block_between.result ≡ block_between m (modal_after m (words k)) k.args.place =
-    k.block_between.ensures ∙ ap (λ (next : Modal). block_between m next k.args.place) k.modal_after-next.ensures in
-    subst (λ (a : Block). Keeps (with_block a blocks) r k.keep.new.made) is
-    (subst (λ (q : Kept). Keeps (with_block k.block_between.result blocks) q k.keep.new.made) e (k.keep.ensures blocks h))
+-- the block between the two positions
+module _ (c : After-keep) where
+  abbrev words : Words
+  words = words_in c.args.words.now
 
-pub returns-in-At : goal.returns-in-At
-returns-in-At c blocks h =
-    let k = (goal.at.returns-in-At c).After-keep in
-    subst (λ (next : Modal). Takes (with_words c.args.place (run_of c.args.m blocks) (words k)) (taken.Next next c.in-At.kept) c.keep.new.made)
+  block_is : c.block_between.result ≡ block_between c.args.m (modal_after c.args.m words) c.args.place
+  block_is = c.block_between.ensures ∙ ap (λ (next : Modal). block_between c.args.m next c.args.place) c.modal_after-next.ensures
+
+  kept_here : (blocks : List Block) (r : Result ⊤ Refusal) → Keeps (with_block c.block_between.result blocks) r c.keep.new.self
+      → Keeps (with_block (block_between c.args.m (modal_after c.args.m words) c.args.place) blocks) r c.keep.new.self
+  kept_here blocks r k = subst (λ (a : Block). Keeps (with_block a blocks) r c.keep.new.self) block_is k
+
+pub returns-in_err-keep : goal.returns-in_err-keep
+returns-in_err-keep c blocks h =
+    let d = (goal.at.returns-in_err-keep c).After-keep in
+    let why = c.in_err-keep.field-0.0 in
+    let e : c.from_residual.result ≡ Err why = search rules in
+    rw e (takes_refused c.args.m (words d) c.args.place c.args.kept.now.count blocks c.keep.new.self why
+    (kept_here d blocks (Err why) (c.in_err-keep.ensures blocks h)))
+
+pub returns : goal.returns
+returns c blocks h =
+    let d = (goal.at.returns c).After-keep in
+    subst (λ (next : Modal). Takes (with_words c.args.place (run_of c.args.m blocks) (words d)) (Ok next) c.keep.new.self)
     (sym c.modal_after-next.ensures)
-    (takes_next c.args.m (words k) c.args.place c.args.count blocks c.keep.new.made c.in-At.kept c.requires.1.1.0 h.counted
-    (kept_here k blocks h c.in-At.is))
-
-pub returns-in-Refused : goal.returns-in-Refused
-returns-in-Refused c blocks h =
-    let k = (goal.at.returns-in-Refused c).After-keep in
-    takes_refused c.args.m (words k) c.args.place c.args.count blocks c.keep.new.made c.in-Refused.why
-    (kept_here k blocks h c.in-Refused.is)
+    (takes_next c.args.m (words d) c.args.place c.args.kept.now.count blocks c.keep.new.self c.requires.1 h.counted
+    (kept_here d blocks (Ok tt) (c.in_ok-keep.ensures blocks h)))

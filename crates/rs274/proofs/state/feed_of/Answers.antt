@@ -1,11 +1,10 @@
 -- `rs274::state::feed_of` meets its contract, by the number's sign.
 use mathlib.Core.Path.{◌≡◌, ap, ◌∙◌}
 use Prim.Native.Nat.{ℕ, ◌*◌, ◌/◌}
-use native.Mathlib.Omega.{arith}
 use lib.IntN.{nat_abs}
 use Rattle.arith.proofs.SignedLaws.{read_back_lem, sign_back}
 use Rattle.rs274.specs.Modal.{unit_of}
-use Rattle.rs274.proofs.Positions.{feed_product, feed_negative, feed_positive}
+use Rattle.rs274.proofs.Positions.{feed_negative, feed_positive}
 use Rattle.rs274.proofs.state.feed_of.Goals as goal
 use Rattle.rs274.proofs.state.feed_of.Goals.{After-unit_of}
 
@@ -13,13 +12,10 @@ pub returns-then-v-lt0 : goal.returns-then-v-lt0
 returns-then-v-lt0 c = feed_negative c.args.inches c.args.v (sign_back c.ranges.v c.if-v-lt0.true)
 
 product : (c : After-unit_of)
-    → c.magnitude.result * c.unit_of.result ≡ nat_abs c.args.v * unit_of c.args.inches
+    → c.unsigned_abs.result * c.unit_of.result ≡ nat_abs c.args.v * unit_of c.args.inches
 product c =
     let s = c.before.before.before in
-    λ i. (c.magnitude.ensures ∙ ap nat_abs (read_back_lem s.ranges.v)) i * c.unit_of.ensures i
-
-pub overflow_mul-result : goal.overflow_mul-result
-overflow_mul-result c = omega (arith, product c, feed_product c.args.inches (nat_abs c.args.v) c.requires)
+    λ i. (c.unsigned_abs.ensures.value ∙ ap nat_abs (read_back_lem s.ranges.v)) i * c.unit_of.ensures i
 
 pub returns : goal.returns
 returns c =

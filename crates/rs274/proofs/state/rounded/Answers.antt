@@ -1,7 +1,6 @@
--- `rs274::state::rounded` meets its contract, from the magnitude.
+-- `rs274::state::rounded` meets its contract, from the unsigned_abs.
 use mathlib.Core.Path.{◌≡◌, ap, ◌∙◌}
 use Prim.Native.Nat.{◌+◌, ◌/◌}
-use native.Mathlib.Omega.{arith}
 use lib.IntN.{pos, nat_abs}
 use lib.Signed.{lt_z}
 use Rattle.arith.specs.Signed.{signed_by}
@@ -9,13 +8,10 @@ use Rattle.arith.proofs.SignedLaws.{read_back_lem}
 use Rattle.rs274.specs.Modal.{rounded_of}
 use Rattle.rs274.proofs.Positions.{rounded_back}
 use Rattle.rs274.proofs.state.rounded.Goals as goal
-use Rattle.rs274.proofs.state.rounded.Goals.{After-magnitude}
+use Rattle.rs274.proofs.state.rounded.Goals.{After-unsigned_abs}
 
-size : (c : After-magnitude) → c.magnitude.result ≡ nat_abs c.args.position
-size c = c.magnitude.ensures ∙ ap nat_abs (read_back_lem c.ranges.position)
-
-pub overflow_add-magnitude : goal.overflow_add-magnitude
-overflow_add-magnitude c = omega (arith, size c, c.requires)
+size : (c : After-unsigned_abs) → c.unsigned_abs.result ≡ nat_abs c.args.position
+size c = c.unsigned_abs.ensures.value ∙ ap nat_abs (read_back_lem c.ranges.position)
 
 pub returns : goal.returns
 unfolding rounded_of

@@ -12,8 +12,8 @@ use Rattle.rs274.proofs.tapes.put_refusal.Goals as goal
 pub returns : goal.returns
 returns c =
     subst (λ (t : List ℕ). Stored c.args.out.now 0 t c.behind.result c.put_refused_at.new.out)
-    (ap (λ (n : ℕ). refused_at n c.args.place) c.refusal_number.ensures)
+    (ap (λ (n : ℕ). refused_at n c.args.r.place) c.refusal_number.ensures)
     (stored_with_room
-    (omega (arith, refused_at_most c.refusal_number.result c.args.place c.refusal_number.type_inv c.ranges.place.fits, c.requires))
+    (omega (arith, refused_at_most c.refusal_number.result c.args.r.place c.refusal_number.type_inv (omega arith), c.requires))
     c.put_refused_at.ensures
     c.behind.ensures)

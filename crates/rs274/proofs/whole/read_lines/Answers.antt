@@ -1,78 +1,52 @@
 -- `rs274::whole::read_lines` meets its contract: before each line, what is still to be read leads to the end.
-use Prim.Native.Nat.{ℕ, ◌+◌, ◌-◌, ◌≤◌, ◌<◌}
-use native.Mathlib.Omega.{arith}
-use lib.Dec.{lit≤}
-use lib.ListN.{length}
-use Rattle.rs274.proofs.Reading.{Reading, Behind, reading_begins, reading_ends, reading_stops, reading_next, line_within, line_is, behind_is, behind_bounds}
+use Rattle.std.proofs.Common.{◌∙◌, ◌<◌, ◌+◌, ◌-◌, ℕ, List, ap, arith, length, drop, length-drop, sym, ◌≡◌, Ok, Err, Result, refl, rules}
+use borrow.Author.Tests.{eqb-true, eqb-false}
+use lib.Seq.{take_all}
+use native.Mathlib.Nat.{le_of_eq}
+use Rattle.display.specs.declared.Refusal.{Refusal}
+use Rattle.rs274.specs.declared.Modal.{Modal}
+use Rattle.rs274.specs.Kept.{Reads}
+use Rattle.rs274.specs.Text.{text_run}
+use Rattle.rs274.proofs.Reading.{behind_is, line_is, reading_begins, reading_ends, reading_next, reading_stops}
 use Rattle.rs274.proofs.whole.read_lines.Goals as goal
-use Rattle.rs274.proofs.whole.read_lines.Goals.{After-behind_line-at, After-line_length}
 
-pub loop-at-init : goal.loop-at-init
-loop-at-init c =
-    (omega arith, (omega arith, (c.requires, (lit≤ tt, reading_begins c.args.text.now c.args.made.now c.begin-m.result c.begin-m.ensures c.requires))))
+pub loop-rest-init : goal.loop-rest-init
+loop-rest-init c = (omega arith, reading_begins c.args.text.now c.args.kept.now c.begin-m.result c.begin-m.ensures c.requires)
 
--- the line that is found
-module _ (c : After-line_length) where
-  here : c.loop-at.at < length c.args.text.now
-  here = c.loop-at-test.true
-
-  within : c.loop-at.at + c.line_length.result ≤ length c.args.text.now
-  within = line_within c.args.text.now c.loop-at.at c.line_length.result c.line_length.ensures c.loop-at.invariant.0
-
-pub overflow_add-end : goal.overflow_add-end
-overflow_add-end c = omega (arith, within c)
-
-pub overflow_add-place : goal.overflow_add-place
-overflow_add-place c = omega (arith, here c, c.loop-at.invariant.1.0)
-
-pub slice_bounds-take_line-end : goal.slice_bounds-take_line-end
-slice_bounds-take_line-end c = within c
-
-pub take_line-requires : goal.take_line-requires
-take_line-requires c =
-    let inv = c.loop-at.invariant in
-    (inv.1.1.1.1.near, (inv.1.1.0, inv.1.1.1.0))
-
-pub returns-in-Refused : goal.returns-in-Refused
-returns-in-Refused c =
-    let q = c.loop-at in
-    reading_stops c.args.text.now q.made q.m q.count q.place q.at q.invariant.1.1.1.1 _
-    (line_is c.args.text.now q.at c.line_length.result c.line_length.ensures) (here (goal.at.returns-in-Refused c).After-line_length) c.in-Refused.why c.take_line.result
-    c.take_line.new.made c.in-Refused.is (c.take_line.ensures q.invariant.1.1.1.1.blocks q.invariant.1.1.1.1.holds)
-
-pub behind_line-at-requires : goal.behind_line-at-requires
-behind_line-at-requires c = within (goal.at.behind_line-at-requires c).After-line_length
-
-bounds : (c : After-behind_line-at)
-    → Behind c.loop-at.place
-    c.loop-at.at
-    (length c.args.text.now)
-    c.behind_line-at.result
-bounds c =
-    let l = (goal.at.loop-at-smaller c).After-line_length in
-    let q = l.loop-at in
-    behind_bounds q.place q.at l.line_length.result (length l.args.text.now) c.behind_line-at.result q.invariant.1.0 (here l) (within l) c.behind_line-at.ensures
-
-pub loop-at-smaller : goal.loop-at-smaller
-loop-at-smaller c =
-    let q = c.loop-at in
-    less q.at (length c.args.text.now) c.behind_line-at.result (bounds c).on (here (goal.at.loop-at-smaller c).After-line_length)
+pub returns-in_err-m : goal.returns-in_err-m
+returns-in_err-m c = by c.take_line.result refl
   where
-    less : (from all next : ℕ) → from < next → from < all → all - next < all - from
-    less from all next h g = omega arith
+    by : (r : Result Modal Refusal) → c.take_line.result ≡ r → Reads (text_run c.args.text.now) c.from_residual.result c.take_line.new.kept
+    by (Ok x) p =
+        let none : ⊥ = search rules in
+        absurd none
+    by (Err why) p =
+        let told = rw p at c.map_err.ensures.cases in
+        let q = c.loop-rest in
+        let e : c.from_residual.result ≡ Err record { why = why; place = q.place + 1 } = search rules in
+        let rest = q.rest.now in
+        let here : 0 < length rest = omega (arith, eqb-false (length rest) 0 (sym c.is_empty.ensures ∙ c.loop-rest-test.true)) in
+        let r = q.invariant.1 in
+        rw e (reading_stops c.args.text.now q.kept q.m q.place rest r _ (line_is rest c.line_length-size.result c.line_length-size.ensures) here
+        c.take_line.new.kept why (rw p at (c.take_line.ensures r.blocks r.holds)))
 
-pub loop-at-preserved : goal.loop-at-preserved
-loop-at-preserved c =
-    let q = c.loop-at in
-    let more : Reading c.args.text.now c.take_line.new.made c.in-Next.next c.in-Next.kept (q.place + 1) c.behind_line-at.result =
-    reading_next c.args.text.now q.made q.m q.count q.place q.at q.invariant.1.1.1.1 _
-    (line_is c.args.text.now q.at c.line_length.result c.line_length.ensures) (here (goal.at.loop-at-preserved c).After-line_length) c.in-Next.next c.in-Next.kept
-    c.behind_line-at.result c.take_line.result c.take_line.new.made
-    (behind_is c.args.text.now q.at c.line_length.result c.line_length.ensures c.behind_line-at.result c.behind_line-at.ensures)
-    c.in-Next.is (c.take_line.ensures q.invariant.1.1.1.1.blocks q.invariant.1.1.1.1.holds) in
-    ((bounds c).within, ((bounds c).numbered, (more.holds.sized, (more.holds.few, more))))
+pub loop-rest-preserved : goal.loop-rest-preserved
+loop-rest-preserved c =
+    let e : c.take_line.result ≡ Ok c.in_ok-m.m = search rules in
+    let q = c.loop-rest in
+    let rest = q.rest.now in
+    let here : 0 < length rest = omega (arith, eqb-false (length rest) 0 (sym c.is_empty.ensures ∙ c.loop-rest-test.true)) in
+    let r = q.invariant.1 in
+    let k = c.min.result in
+    let all = take_all (length rest - k) (drop k rest) (le_of_eq (length-drop k rest)) in
+    let behind = all ∙ ap (λ (n : ℕ). drop n rest) c.min.ensures ∙ behind_is rest c.line_length-size.result c.line_length-size.ensures in
+    let shorter = ap (λ (l : List ℕ). length l) all ∙ length-drop k rest in (
+      omega (arith, shorter, here, c.min.ensures, q.invariant.0),
+      reading_next c.args.text.now q.kept q.m q.place rest r _ (line_is rest c.line_length-size.result c.line_length-size.ensures) here
+          c.take_line.new.kept c.in_ok-m.m _ behind (rw e at (c.take_line.ensures r.blocks r.holds)),
+    )
 
 pub returns : goal.returns
 returns c =
-    let q = c.loop-at in
-    reading_ends c.args.text.now q.made q.m q.count q.place q.at q.invariant.1.1.1.1 c.loop-at-test.false
+    let q = c.loop-rest in
+    reading_ends c.args.text.now q.kept q.m q.place q.rest.now q.invariant.1 (eqb-true (length q.rest.now) 0 (sym c.is_empty.ensures ∙ c.loop-rest-test.false))

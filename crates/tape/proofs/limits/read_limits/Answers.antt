@@ -1,5 +1,6 @@
 -- `tape::limits::read_limits` meets its contract, from what `decode_limits` and `check_limits` ensure.
 use mathlib.Core.Path.{◌≡◌, sym, ap, ◌∙◌}
+use Rattle.std.proofs.Common.{rules, Err}
 use Rattle.machine.specs.Checks.{limits_refusal}
 use Rattle.display.specs.declared.Refusal.TheVariants as why
 use Rattle.tape.specs.Tape.{zero_bits}
@@ -33,10 +34,12 @@ returns-then-read_field-ne0 c =
     refuses_by _ why.Limits
     (limits_long _ c.if-s-lt-LIMITS_BYTES.false ∙ limits_bits _ (λ z. c.if-read_field-ne0.true (bits (goal.at.returns-then-read_field-ne0 c).After-read_field ∙ z)))
 
-pub returns-in-Passed : goal.returns-in-Passed
+pub returns-in_err-check_limits : goal.returns-in_err-check_limits
 unfolding read_limits
-returns-in-Passed c = gives _ _ (number (goal.at.returns-in-Passed c).After-check_limits (bits (goal.at.returns-in-Passed c).After-read_field) ∙ ap checked_means c.in-Passed.is) c.decode_limits-l.ensures
+returns-in_err-check_limits c =
+    let e : c.from_residual.result ≡ Err c.in_err-check_limits.field-0.0 = search rules in
+    rw e (refuses_by _ c.in_err-check_limits.field-0.0 (number (goal.at.returns-in_err-check_limits c).After-check_limits (bits (goal.at.returns-in_err-check_limits c).After-read_field) ∙ ap checked_means c.in_err-check_limits.was))
 
-pub returns-in-Refused : goal.returns-in-Refused
+pub returns : goal.returns
 unfolding read_limits
-returns-in-Refused c = refuses_by _ c.in-Refused.why (number (goal.at.returns-in-Refused c).After-check_limits (bits (goal.at.returns-in-Refused c).After-read_field) ∙ ap checked_means c.in-Refused.is)
+returns c = gives _ _ (number (goal.at.returns c).After-check_limits (bits (goal.at.returns c).After-read_field) ∙ ap checked_means c.in_ok-check_limits.was) c.decode_limits-l.ensures

@@ -1,5 +1,6 @@
 -- `tape::records::read_record` meets its contract, from what `decode_record` and `check_block` ensure.
 use mathlib.Core.Path.{◌≡◌, sym, ap, ◌∙◌}
+use Rattle.std.proofs.Common.{rules, Err}
 use Rattle.machine.specs.Checks.{block_refusal}
 use Rattle.display.specs.declared.Refusal.TheVariants as why
 use Rattle.display.specs.Display.{checked_means}
@@ -18,10 +19,13 @@ pub returns-then-s-lt-RECORD_BYTES : goal.returns-then-s-lt-RECORD_BYTES
 unfolding read_record
 returns-then-s-lt-RECORD_BYTES c = refuses_by _ why.Ragged (record_short _ c.if-s-lt-RECORD_BYTES.true)
 
-pub returns-in-Passed : goal.returns-in-Passed
+pub returns-in_err-check_block : goal.returns-in_err-check_block
 unfolding read_record
-returns-in-Passed c = gives _ _ (number (goal.at.returns-in-Passed c).After-check_block ∙ ap checked_means c.in-Passed.is) c.decode_record-b.ensures
+returns-in_err-check_block c =
+    let r = c.in_err-check_block.field-0.0 in
+    let e : c.from_residual.result ≡ Err r = search rules in
+    rw e (refuses_by _ r (number (goal.at.returns-in_err-check_block c).After-check_block ∙ ap checked_means c.in_err-check_block.was))
 
-pub returns-in-Refused : goal.returns-in-Refused
+pub returns : goal.returns
 unfolding read_record
-returns-in-Refused c = refuses_by _ c.in-Refused.why (number (goal.at.returns-in-Refused c).After-check_block ∙ ap checked_means c.in-Refused.is)
+returns c = gives _ _ (number (goal.at.returns c).After-check_block ∙ ap checked_means c.in_ok-check_block.was) c.decode_record-b.ensures

@@ -17,8 +17,8 @@ returns c =
     with_next _ 0 8 8 _ _ c.write_word.ensures c.write_word-2.ensures (omega (arith, c.requires.0)) c.second_word-second.ensures.small
     ∙ ap (with_bytes c.args.out.now 0 16)
     (words_of_block b
-    (c.to_bits-x.ensures.is ∙ ap (bits_of move_bits) (to_z-of_z {w = w64} {z = b.x} (record { sfits = c.struct_told-1.given.0.1 })))
-    (c.to_bits-y.ensures.is ∙ ap (bits_of move_bits) (to_z-of_z {w = w64} {z = b.y} (record { sfits = c.struct_told-2-1.given.1.0.1 })))
-    (c.to_bits-z.ensures.is ∙ ap (bits_of move_bits) (to_z-of_z {w = w64} {z = b.z} (record { sfits = c.struct_told-3-1.given.1.1.0.1 })))
+    (c.to_bits-x.ensures.is ∙ ap (bits_of move_bits) (to_z-of_z {w = w64} {z = b.x} (record { sfits = omega arith })))
+    (c.to_bits-y.ensures.is ∙ ap (bits_of move_bits) (to_z-of_z {w = w64} {z = b.y} (record { sfits = omega arith })))
+    (c.to_bits-z.ensures.is ∙ ap (bits_of move_bits) (to_z-of_z {w = w64} {z = b.z} (record { sfits = omega arith })))
     c.first_word-first.ensures.is
     (c.second_word-second.ensures.is ∙ ap (λ (n : ℕ). b.feed % 2 ^ 19 * 2 ^ 45 + b.radius * 2 ^ 21 + n) c.label_of-label.ensures))

@@ -1,4 +1,5 @@
 -- `tape::whole::read_head` meets its contract: the tests are the definition's, and the rest is what `read_limits` ensures.
+use mathlib.Core.Bool.{true≢false}
 use mathlib.Core.Path.{sym, ◌∙◌}
 use Rattle.display.specs.declared.Refusal.TheVariants as why
 use Rattle.tape.specs.Tape.{limits_at}
@@ -16,13 +17,13 @@ pub returns-then-s-lt-LIMITS_BYTES : goal.returns-then-s-lt-LIMITS_BYTES
 unfolding read_head
 returns-then-s-lt-LIMITS_BYTES c = refuses_by _ why.Ragged (head_short _ c.if-s-gt-MOST_BYTES.false c.if-s-lt-LIMITS_BYTES.true)
 
-pub returns-then-s-ne0 : goal.returns-then-s-ne0
+pub returns-then-not-is_multiple_of : goal.returns-then-not-is_multiple_of
 unfolding read_head
-returns-then-s-ne0 c = refuses_by _ why.Ragged (head_ragged _ c.if-s-gt-MOST_BYTES.false c.if-s-lt-LIMITS_BYTES.false c.if-s-ne0.true)
+returns-then-not-is_multiple_of c = refuses_by _ why.Ragged (head_ragged _ c.if-s-gt-MOST_BYTES.false c.if-s-lt-LIMITS_BYTES.false (λ z. true≢false (sym (c.is_multiple_of.ensures.1 z) ∙ c.if-not-is_multiple_of.true)))
 
 pub returns : goal.returns
 unfolding read_head read_limits
 returns c =
     let s = c.args.s.now in
-    let n = limits_long s c.if-s-lt-LIMITS_BYTES.false ∙ sym (head_limits s c.if-s-gt-MOST_BYTES.false c.if-s-lt-LIMITS_BYTES.false c.if-s-ne0.false) in
+    let n = limits_long s c.if-s-lt-LIMITS_BYTES.false ∙ sym (head_limits s c.if-s-gt-MOST_BYTES.false c.if-s-lt-LIMITS_BYTES.false (c.is_multiple_of.ensures.0 c.if-not-is_multiple_of.false)) in
     c.read_limits.ensures ∙ (λ i. by_number (n i) (given (limits_at s)) (refused (n i)))

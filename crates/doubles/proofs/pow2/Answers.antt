@@ -1,7 +1,0 @@
--- `doubles::pow2` meets its contract: one shifted left by fewer than 64 places is that power, which fits.
-use native.Mathlib.Nat.{one-mul, mod-eq_of_lt}
-use lib.Pow.{pow-lt}
-use Rattle.doubles.proofs.pow2.Goals as goal
-
-pub returns : goal.returns
-returns c = rw one-mul (mod-eq_of_lt (pow-lt c.requires))

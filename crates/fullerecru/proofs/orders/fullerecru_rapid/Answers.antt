@@ -1,9 +1,0 @@
--- `fullerecru::orders::fullerecru_rapid`: the promise of `order` at the points, by its number.
-use mathlib.Core.Path.{ap}
-use Rattle.host.specs.declared.orders.Order.TheVariants.{Rapid}
-use Rattle.fullerecru.proofs.LentOrders.{ordered_by}
-use Rattle.fullerecru.proofs.orders.fullerecru_rapid.Goals as goal
-
-pub returns : goal.returns
-returns c =
-    ordered_by c.order.result c.order.ensures (ap Rapid c.point_from.ensures) c.point_from-2.ensures c.added_number.ensures

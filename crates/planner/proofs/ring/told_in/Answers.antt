@@ -1,8 +1,0 @@
--- `planner::ring::told_in`: the number kept, but no more than there are places.
-use Rattle.planner.specs.View.{view_of}
-use Rattle.planner.proofs.Outcomes.{told_is}
-use Rattle.planner.proofs.ring.told_in.Goals as goal
-
-pub returns : goal.returns
-unfolding view_of
-returns c = told_is _ _ c.smaller.ensures
