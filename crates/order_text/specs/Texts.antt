@@ -14,12 +14,12 @@ use Rattle.host.specs.Events.{Held, EventDone, calls_of_all, event_answers, host
 use Rattle.host.specs.declared.orders.Point.{Point}
 use Rattle.host.specs.declared.orders.Event.{Event}
 use Rattle.replay_text.specs.Chunks.{Recorded}
-use Rattle.replay_text.specs.Texts.{answer_text, answers_text, closing_text, cut_text, headed_text}
+use Rattle.replay_text.specs.Texts.{answer_text, answers_text, closing_text, cut_text, headed_text, most_calls}
 use Rattle.order_text.specs.Orders.{event_bytes, event_of, orders_events}
 
 -- the records of orders: how many of a chunk are run at most, and what they are
 abbrev pub most_events : ℕ
-most_events = 300
+most_events = most_calls
 
 abbrev pub recorded_events : Recorded Held Event Answer
 recorded_events = record { size = event_bytes; most = most_events; says = event_of; Step = EventDone; line = answer_text }

@@ -18,13 +18,13 @@ ghost use Rattle.order_text.specs.Closes.{ClosedOrders};
 use doubles::bits_of;
 use events::read_event;
 use planner::NUMBERS;
-use replay_text::{TEXT, records_of, write_answer};
+use replay_text::{CALLS, TEXT, records_of, write_answer};
 use text::behind;
 
 // Bytes of an event.
 pub const EVENT_BYTES: usize = 68;
-// Events of a chunk that are run at most: their lines have room in a list of `replay_text::TEXT` bytes.
-pub const EVENTS: usize = 300;
+// Events of a chunk that are run at most, as many as calls of a trace: their lines have room in a list of `replay_text::TEXT` bytes.
+pub const EVENTS: usize = CALLS;
 
 // Runs the events of a chunk in turn, and stores their lines from the first byte on, each behind the one
 // before it. Returns how many bytes they take. Events beyond `EVENTS`, and bytes behind the last whole

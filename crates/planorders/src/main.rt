@@ -7,6 +7,7 @@
 #![tactic(auto)]
 
 ghost use Rattle.std.proofs.Common.{lit<};
+ghost use Rattle.order_text.specs.Orders.{event_bytes};
 
 use arguments::{Program, STEPS, start};
 use options::Form;
@@ -34,7 +35,7 @@ impl Events {
 }
 
 impl Records for Events {
-    ghost SIZE = { 68 };
+    ghost SIZE = { event_bytes };
 
     ghost sized = { lit< tt };
 

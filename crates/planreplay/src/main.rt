@@ -7,6 +7,7 @@
 #![tactic(auto)]
 
 ghost use Rattle.std.proofs.Common.{lit<};
+ghost use Rattle.replay.specs.Trace.{call_bytes};
 
 use arguments::{Program, STEPS, start};
 use options::Form;
@@ -23,7 +24,7 @@ const CHUNK: usize = CALL_BYTES * RECORDS;
 struct Calls;
 
 impl Records for Calls {
-    ghost SIZE = { 28 };
+    ghost SIZE = { call_bytes };
 
     ghost sized = { lit< tt };
 

@@ -5,6 +5,7 @@
 
 ghost use Rattle.std.specs.Prelude.{◌≡◌, ◌+◌, ◌*◌, ◌/◌, ◌≤◌, ◌<◌, ◌^◌, ℕ, length};
 ghost use Rattle.replay_text.specs.Chunks.{text_bytes};
+ghost use Rattle.replay_text.specs.Texts.{most_calls};
 
 use arguments::WorkError;
 use display::{Refusal, refusal_number};
@@ -66,7 +67,7 @@ impl Runner {
         streams: Streams,
         records: &mut R,
     ) -> Result<Option<u64>, WorkError>
-        requires whole { CHUNK ≡ 300 * R.SIZE }
+        requires whole { CHUNK ≡ most_calls * R.SIZE }
         requires room { CHUNK < 2 ^ 63 }
     {
         let mut chunk = [0u8; CHUNK];
@@ -101,7 +102,7 @@ pub fn run<const CHUNK: usize, R: Records + Drop>(
     steps: &[u8],
     mut records: R,
 ) -> Result<(), WorkError>
-    requires whole { CHUNK ≡ 300 * R.SIZE }
+    requires whole { CHUNK ≡ most_calls * R.SIZE }
     requires room { CHUNK < 2 ^ 63 }
 {
     let mut runner = Runner {
