@@ -5,6 +5,7 @@ pub mod PieceLaws
 pub mod NumberLaws
 pub mod WordLaws
 pub mod SlotLaws
+pub mod ApartLaws
 pub mod SizeLaws
 pub mod LeadingMeaning
 pub mod LineMeaning

@@ -2,20 +2,23 @@
 use mathlib.Core.Path.{◌≡◌, refl, sym, ap, subst, ◌∙◌}
 use mathlib.Core.Bool.{Bool, true, false, cond, ◌&&◌}
 use mathlib.Core.List.{List, ◌∷◌, []}
-use Prim.Native.Nat.{ℕ, zero, suc, ◌+◌, ◌-◌, ◌*◌, ◌^◌, ◌≤◌, ◌<◌}
-use native.Mathlib.Numerals.{add-one}
+use Prim.Native.Nat.{ℕ, zero, suc, ◌+◌, ◌-◌, ◌*◌, ◌^◌, ◌≤◌, ◌<◌, min}
+use native.Mathlib.Decide.{dec_le}
+use native.Mathlib.Nat.{lt_of_not-le, mul_comm}
 use native.Mathlib.Omega.{arith}
 use borrow.Author.Tests.{leb-true, le-leb, lt-leb, eq-eqb, ne_eqb}
 use lib.Dec.{lit≤, leb, eqb}
 use lib.ListN.{length, take, drop, get_or, drop_of_length-le}
+use lib.Pow.{pow-add}
 use lib.Seq.{take-length, drop-cons}
 use Rattle.arith.specs.Signed.{signed_by}
 use Rattle.arith.proofs.Tests.{both, fails_first, fails_second, meets}
 use Rattle.text.specs.Text.{OnlyDigits, value, value_behind}
+use Rattle.words.specs.Digits.{looked_digits}
 use Rattle.words.specs.Leading.{leading, behind}
 use Rattle.words.specs.Number.{after_sign, most_decimals, most_digits, number_in, of_decimals, parts, with_decimals}
 use Rattle.words.specs.Pieces.{digit, minus, plus, point, within}
-use Rattle.words.proofs.LeadingLaws.{leading_no, leading_yes, take_leading}
+use Rattle.words.proofs.LeadingLaws.{leading_first, leading_most, leading_no, leading_yes, take_leading}
 use Rattle.std.specs.Prelude.{Some, None}
 
 -- The digits that bytes begin with are digits alone, and so are bytes of which all are among them.
@@ -38,20 +41,50 @@ digit_at [] i d h = absurd (omega arith)
 digit_at (b ∷ s) zero d h = (d.0, d.1.0)
 digit_at (b ∷ s) (suc i) d h = digit_at s i d.1.1 (omega arith)
 
--- Digits that stand at place i: what is behind them is read behind the number so far, which is at most the whole.
+-- Reading the digits from place i on: one more, and none, at another byte or at the end.
 module _ (above : ℕ) (s : List ℕ) (i : ℕ) where
-  pub reads_on : i < length s → value_behind above (drop i s) ≡ value_behind (above * 10 + (get_or s i 0 - 48)) (drop (i + 1) s)
-  unfolding value_behind
-  reads_on h = rw (add-one i) (ap (value_behind above) (drop-cons s i 0 h))
+  abbrev rest : List ℕ → ℕ
+  rest l = value_behind above (leading digit l)
 
-  pub reads_end : length s ≤ i → value_behind above (drop i s) ≡ above
+  pub reads_yes : i < length s → digit (get_or s i 0) ≡ true
+      → value_behind above (leading digit (drop i s)) ≡ value_behind (above * 10 + (get_or s i 0 - 48)) (leading digit (drop (i + 1) s))
   unfolding value_behind
-  reads_end h = ap (value_behind above) (drop_of_length-le s h)
+  reads_yes h e =
+      ap rest (drop-cons s i 0 h) ∙ ap (value_behind above) (leading_yes digit (get_or s i 0) (drop (suc i) s) e)
+      ∙ ap (λ (n : ℕ). value_behind (above * 10 + (get_or s i 0 - 48)) (leading digit (drop n s))) (one i)
+    where
+      one : (i : ℕ) → suc i ≡ i + 1
+      one i = omega arith
 
-pub reads_most : (above : ℕ) (s : List ℕ) → above ≤ value_behind above s
-unfolding value_behind
-reads_most above [] = omega arith
-reads_most above (b ∷ s) = omega (arith, reads_most (above * 10 + (b - 48)) s)
+  pub reads_no : i < length s → digit (get_or s i 0) ≡ false → value_behind above (leading digit (drop i s)) ≡ above
+  unfolding value_behind
+  reads_no h e = ap rest (drop-cons s i 0 h) ∙ ap (value_behind above) (leading_no digit (get_or s i 0) (drop (suc i) s) e)
+
+  pub reads_end : length s ≤ i → value_behind above (leading digit (drop i s)) ≡ above
+  unfolding value_behind
+  reads_end h = ap rest (drop_of_length-le s h)
+
+-- Of the bytes that are looked at: up to five digits are all that there are, and more are too many.
+module _ (s : List ℕ) (k : ℕ) (e : k ≡ min (length s) looked_digits) where
+  pub looked_few : length (leading digit (take k s)) ≤ most_digits → leading digit (take k s) ≡ leading digit s
+  looked_few h = elim (dec_le looked_digits (length s)) [
+    | yes l ↦
+        let six : k ≡ looked_digits = omega (arith, e, l) in
+        ap (λ (n : ℕ). leading digit (take n s)) six ∙ leading_first digit looked_digits s (omega (arith, rw six at h))
+    | no l ↦
+        let all : k ≡ length s = omega (arith, e, lt_of_not-le l) in
+        ap (λ (n : ℕ). leading digit (take n s)) all ∙ ap (leading digit) (take-length s)
+  ]
+
+  pub looked_many : most_digits < length (leading digit (take k s)) → most_digits < length (leading digit s)
+  looked_many h = omega (arith, h, leading_most digit k s)
+
+-- So many digits write a number below that power of ten.
+pub value_below : (n d i : ℕ) → n < 10 ^ i → d ≤ 57 → n * 10 + (d - 48) < 10 ^ (i + 1)
+value_below n d i h e = rw (power i) (omega (arith, h, e))
+  where
+    power : (i : ℕ) → 10 ^ (i + 1) ≡ 10 * 10 ^ i
+    power i = pow-add 10 i 1 ∙ mul_comm (10 ^ i) 10
 
 -- Powers of ten up to that of the most digits.
 pub power_below : (i : ℕ) → i ≤ 5 → 10 ^ i ≤ 100_000

@@ -15,13 +15,9 @@ use Rattle.display.specs.Display.{Outcome, given, refused}
 use Rattle.words.specs.Number.{number_in}
 use Rattle.words.specs.Pieces.{Piece, word, stray}
 use Rattle.words.specs.Meaning.{Kept, Listed, Once, number_at, number_of, slot_at, slot_by, slot_in}
+use Rattle.words.specs.Steps.{Sized}
 use Rattle.words.specs.Words.{Scan, Words, feed_slot, filled, is_number, line_slot, motion_slot, no_words, scan, slot_of, slots, unit_slot, way_slot, with_number, with_pieces, with_slot, with_word, x_slot, y_slot, z_slot}
 use Rattle.std.specs.Prelude.{Option, Some, None}
-
--- As many slots as a line has.
-record Sized (stands : List Bool) (values : List ℤ) : Type 0 where
-  told : length stands ≡ slots
-  numbers : length values ≡ slots
 
 -- Contradictions, and equal slots.
 differ : {t : Bool} → t ≡ true → t ≡ false → ⊥

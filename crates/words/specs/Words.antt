@@ -69,6 +69,17 @@ words_by stands values = record { stands = stands; values = values }
 abbrev pub words_in : List (Option ℤ) → Words
 words_in words = words_by (map is_some words) (map (λ w. unwrap_or w (pos 0)) words)
 
+-- the numbers of words that stand, laid over others: a slot without a word shows the number below
+abbrev pub laid : List Bool → (numbers below : List ℤ) → List ℤ
+laid [] numbers below = []
+laid (t ∷ stands) [] below = []
+laid (t ∷ stands) (z ∷ numbers) [] = []
+laid (t ∷ stands) (z ∷ numbers) (y ∷ below) = cond t z y ∷ laid stands numbers below
+
+-- words whose numbers are laid over others
+abbrev pub over : (below : List ℤ) → Words → Words
+over below w = words_by w.stands (laid w.stands w.values below)
+
 -- a line without words, and one with a further word
 abbrev pub no_words : Words
 no_words = words_by (replicate slots false) (replicate slots (pos 0))

@@ -40,3 +40,12 @@ pub const MILLIMETRES: u64 = 210_000;
 pub const ABSOLUTE: u64 = 900_000;
 
 pub const INCREMENTAL: u64 = 910_000;
+
+// Digits that stand at the beginning of bytes. Here, and not where they are read, so that the definitions can speak of them.
+#[derive(Clone, Copy)]
+struct Digits {
+    // how many
+    count: usize,
+    // the number that they write
+    value: u64,
+}

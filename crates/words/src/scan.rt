@@ -1,7 +1,7 @@
 // The words of a line, one after the other from the left.
 ghost use Rattle.std.specs.Prelude.{◌≡◌, ◌<◌, length};
-ghost use Rattle.words.specs.Steps.{Puts, Scanned, Stepped};
-ghost use Rattle.words.specs.Words.{InLine, axis_slot, is_value, slot_of, slot_of_g, behind_words, with_slot, with_word, words_in};
+ghost use Rattle.words.specs.Steps.{Puts, Scanned, ScannedApart, Stepped};
+ghost use Rattle.words.specs.Words.{InLine, axis_slot, is_value, over, slot_of, slot_of_g, behind_words, with_slot, with_word, words_by, words_in};
 
 use crate::bytes::numerals;
 use crate::numbers::read_number;
@@ -113,4 +113,41 @@ pub fn read_words(line: &[u8], words: &mut [Option<i64>; SLOTS]) -> Result<(), R
         rest = &rest[n..];
     }
     Ok(())
+}
+
+// The words of two lists in one: the number of the word in each slot, or `None` where no word stands.
+fn join(stands: &[bool; SLOTS], values: &[i64; SLOTS]) -> [Option<i64>; SLOTS]
+    ensures { over values.now (words_in result) ≡ words_by stands.now values.now }
+{
+    let mut words = [None; SLOTS];
+    for (k, value) in values.iter().enumerate() {
+        words[k] = stands[k].then_some(*value);
+    }
+    words
+}
+
+// Stores the words of one list in two: whether one stands in each slot, and its number. A number in a slot where none
+// stands stays.
+fn part(words: &[Option<i64>; SLOTS], stands: &mut [bool; SLOTS], values: &mut [i64; SLOTS])
+    ensures { words_by stands.new values.new ≡ over values.old (words_in words.now) }
+{
+    for (k, word) in words.iter().enumerate() {
+        stands[k] = word.is_some();
+        values[k] = word.unwrap_or(values[k]);
+    }
+}
+
+// As `read_words`, with the words in two lists: whether one stands in each slot, and its number, ten-thousandths. A number
+// may be lent in a slot where no word stands too: it stays, unless a word is read into that slot.
+pub fn read_words_apart(
+    line: &[u8],
+    stands: &mut [bool; SLOTS],
+    values: &mut [i64; SLOTS],
+) -> Result<(), Refusal>
+    ensures { ScannedApart (behind_words line.now (words_by stands.old values.old)) result stands.new values.new }
+{
+    let mut words = join(stands, values);
+    let answer = read_words(line, &mut words);
+    part(&words, stands, values);
+    answer
 }
