@@ -85,3 +85,19 @@ quote = codes "'"
 unfoldable pub failed_line : (program : List ℕ) → FileError → (name : List ℕ) → List ℕ
 failed_line program (Unopened why) name = line_of program cannot_open name quote
 failed_line program (Unread why) name = line_of program cannot_read name quote
+
+-- `: standard output did not take `
+unfoldable pub untaken : List ℕ
+untaken = codes ": standard output did not take "
+
+-- the line that standard output did not take what was written
+unfoldable pub untaken_line : (program what : List ℕ) → List ℕ
+untaken_line program what = line_of program untaken what (10 ∷ [])
+
+-- `: standard input could not be read to its end` and a line feed
+unfoldable pub unread : List ℕ
+unread = codes ": standard input could not be read to its end" ++ 10 ∷ []
+
+-- the line that standard input was not read to its end
+unfoldable pub unread_line : (program : List ℕ) → List ℕ
+unread_line program = line_of program unread [] []

@@ -2,7 +2,7 @@
 ghost use Rattle.std.specs.Prelude.{◌≡◌, ◌+◌, ◌≤◌, map, length};
 ghost use Rattle.std.specs.Counts.{IsPrefixLen};
 ghost use Rattle.text.specs.Store.{Stored};
-ghost use Rattle.arguments.specs.Lines.{around_size, failed_line, line_of, line_size, missing_line, name_size, needed, shown_as, version_line, word_size, wrong_line};
+ghost use Rattle.arguments.specs.Lines.{around_size, failed_line, line_of, line_size, missing_line, name_size, needed, shown_as, unread_line, untaken_line, version_line, word_size, wrong_line};
 
 use crate::scan::read_word;
 use crate::{FileError, WorkError};
@@ -162,6 +162,31 @@ impl<'a> Reporter<'a> {
         store_line(line, self.program, matter, name, b"'")
     }
 
+    // Stores the line that standard output did not take this. It is written whole, so that the lines of two programs on one standard
+    // error do not mix.
+    #[tactic(auto, unfolding(crate::specs::Lines::untaken_line, crate::specs::Lines::untaken))]
+    fn store_untaken(self, line: &mut [u8; LINE], what: &[u8]) -> usize
+        requires { length what.now ≤ word_size }
+        ensures { Stored line.old 0 (untaken_line self.entry.program.now what.now) result line.new }
+    {
+        store_line(
+            line,
+            self.program,
+            b": standard output did not take ",
+            what,
+            b"\n",
+        )
+    }
+
+    // Stores the line that standard input was not read to its end.
+    #[tactic(auto, unfolding(crate::specs::Lines::unread_line, crate::specs::Lines::unread))]
+    fn store_unread(self, line: &mut [u8; LINE]) -> usize
+        ensures { Stored line.old 0 (unread_line self.entry.program.now) result line.new }
+    {
+        let matter = b": standard input could not be read to its end\n";
+        store_line(line, self.program, matter, b"", b"")
+    }
+
     // Says which word is wrong, as much of it as is shown.
     #[tactic(auto, using(text::proofs::Store::within, text::proofs::Store::length_front))]
     pub fn say_wrong<R: Env>(self, rt: &R, reads: bool, place: usize) {
@@ -198,24 +223,27 @@ impl<'a> Reporter<'a> {
         say_error(self.errors, b"\n");
     }
 
-    // Says that standard output did not take what was written.
+    // Says that standard output did not take what was written, as much of the words for it as is shown.
+    #[tactic(auto, using(text::proofs::Store::within, text::proofs::Store::length_front))]
     fn say_untaken(self, what: &[u8]) {
-        say_error(self.errors, self.program);
-        say_error(self.errors, b": standard output did not take ");
-        say_error(self.errors, what);
-        say_error(self.errors, b"\n");
+        let told = what.len().min(WORD);
+        let mut line = [0u8; LINE];
+        let end = self.store_untaken(&mut line, &what[..told]);
+        say_error(self.errors, &line[..end]);
+    }
+
+    // Says that standard input was not read to its end.
+    #[tactic(auto, using(text::proofs::Store::within, text::proofs::Store::length_front))]
+    fn say_unread(self) {
+        let mut line = [0u8; LINE];
+        let end = self.store_unread(&mut line);
+        say_error(self.errors, &line[..end]);
     }
 
     // Says why the program's work ended before it was done; this is what it writes.
     pub fn say_ended(self, why: WorkError, output: &[u8]) {
         match why {
-            WorkError::Input(_) => {
-                say_error(self.errors, self.program);
-                say_error(
-                    self.errors,
-                    b": standard input could not be read to its end\n",
-                );
-            }
+            WorkError::Input(_) => self.say_unread(),
             WorkError::Output(_) => self.say_untaken(output),
         }
     }
