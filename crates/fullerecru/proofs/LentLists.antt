@@ -1,12 +1,17 @@
 -- From what filling a lent list with what is made of a tape promises to the promise of such a function for C; two outcomes that meet it are equal.
 use mathlib.Core.List.{List, ◌∷◌, []}
-use mathlib.Core.Path.{◌≡◌, sym, ap, ◌∙◌}
+use mathlib.Core.Path.{◌≡◌, refl, sym, ap, ◌∙◌}
 use Prim.Native.Nat.{ℕ}
+use lib.ListN.{length}
 use Rattle.display.specs.Display.{Fault}
 use Rattle.tapeplan.specs.Planned.{FilledTape, planned_means}
 use Rattle.std.specs.Prelude.{⊤, Result}
 use Rattle.display.specs.declared.RefusedAt.{RefusedAt}
-use Rattle.fullerecru.specs.Plans.{FilledLent}
+use Rattle.fullerecru.specs.Plans.{FilledLent, count_size}
+
+-- A count, such as the place of a record, has as many numbers as are lent for it.
+pub count_sized : (n : ℕ) → length (n ∷ []) ≡ count_size
+count_sized n = refl
 
 -- By the number and the place of its answer.
 pub filled_lent : {tape loaded filling list list' place' : List ℕ} {size : ℕ} (r : Result ⊤ RefusedAt) {n : ℕ} → FilledTape tape loaded size filling list list' r

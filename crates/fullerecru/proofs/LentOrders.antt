@@ -2,6 +2,7 @@
 use mathlib.Core.List.{List}
 use mathlib.Core.Path.{◌≡◌, refl, sym, ap, subst, ◌∙◌}
 use Prim.Native.Nat.{ℕ}
+use lib.ListN.{length}
 use Rattle.line.specs.Answers.{Answer, answer_by, answer_number, done_means}
 use Rattle.std.specs.Prelude.{⊤, Result}
 use Rattle.display.specs.declared.Refusal.{Refusal}
@@ -9,7 +10,11 @@ use Rattle.line.proofs.Answers.{add_back}
 use Rattle.host.specs.Calls.{Ordered}
 use Rattle.host.specs.declared.orders.Order.{Order}
 use Rattle.host.specs.declared.orders.Point.{Point}
-use Rattle.fullerecru.specs.Orders.{point_from, coordinates_of}
+use Rattle.fullerecru.specs.Orders.{point_from, point_size, coordinates_of}
+
+-- A point has as many coordinates as are lent for it.
+pub point_sized : (p : Point) → length (coordinates_of p) ≡ point_size
+point_sized p = refl
 
 -- A point that is stored is read back.
 pub point_back : (p : Point) → point_from (coordinates_of p) ≡ p

@@ -6,6 +6,7 @@ use Prim.Native.Nat.{ℕ, ◌+◌, ◌^◌, ◌≤◌, ◌<◌}
 use native.Mathlib.Nat.{mod-eq_of_lt}
 use native.Mathlib.Omega.{arith}
 use lib.Dec.{lit<}
+use lib.ListN.{length}
 use lib.Ieee.{binary64, fin, of_int, to_signed}
 use lib.IntN.{ℤ, pos, negsuc, nat_abs}
 use lib.Signed.{mag}
@@ -19,8 +20,12 @@ use Rattle.machine.proofs.Bounds.{in_range}
 use Rattle.doubles.specs.Readings.{most_read}
 use Rattle.doubles.proofs.Positions.{position_exact, position_not_minus_zero}
 use Rattle.host.specs.Fields.{Within, value_of}
-use Rattle.host.specs.State.{Host, fresh_host, host_bits, coordinate_of, host_of, host_numbers, host_behind, block_of}
+use Rattle.host.specs.State.{Host, fresh_host, host_bits, host_size, coordinate_of, host_of, host_numbers, host_behind, block_of}
 use Rattle.host.specs.declared.orders.Readings.{Readings}
+
+-- A host is kept in as many numbers as are lent for it.
+pub host_sized : (h : Host) → length (host_numbers h) ≡ host_size
+host_sized h = refl
 
 -- A coordinate that is kept, whatever its number.
 pub coordinate_small : (n : ℕ) → nat_abs (coordinate_of n) ≤ 2 ^ 31

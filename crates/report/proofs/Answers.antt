@@ -1,5 +1,5 @@
 -- What a tape is answered, and what a report holds then, by the answer. From the laws of the numbers on the display.
-use Rattle.std.proofs.Common.{◌≡◌, ℕ, ◌+◌, ◌<◌, ◌≤◌, Bool, cond, ltb, List, sym, ap, ◌∙◌, arith, le-ltb, lt-ltb}
+use Rattle.std.proofs.Common.{◌≡◌, ℕ, ◌+◌, ◌<◌, ◌≤◌, Bool, cond, ltb, List, length, refl, sym, ap, ◌∙◌, arith, le-ltb, lt-ltb}
 use Rattle.display.specs.Display.{Fault, given, refused, refusal_number, ◌at◌}
 use Rattle.display.specs.declared.Refusal.{Refusal}
 use Rattle.display.specs.declared.Refusal.TheVariants as why
@@ -8,9 +8,13 @@ use Rattle.tapeplan.specs.Planned.{whole_fault, whole_refusal}
 use Rattle.tape.proofs.Faults.{neither}
 use Rattle.tapeplan.proofs.Answered.{whole_faultless, whole_passed}
 use Rattle.tapeplan.proofs.Sized.{fault_above}
-use Rattle.report.specs.Figures.{figured_by, figures_of}
+use Rattle.report.specs.Figures.{figure_count, figure_numbers, figured_by, figures_of}
 use Rattle.report.specs.Report.{Reported, add_fault, all_of, most_tapes, report_numbers, tapes_in, with_figures}
 use Rattle.report.specs.declared.Figures.{Figures}
+
+-- The figures of a tape are as many numbers as are lent for them.
+pub figures_sized : (f : Figures) → length (figure_numbers f) ≡ figure_count
+figures_sized f = refl
 
 -- figures are refused by a fault, or given where there is none
 pub figured_refused : (fault : Fault) (f : Figures) (r : Refusal) (place : ℕ) → refusal_number r at place ≡ fault → refused (refusal_number r at place) ≡ figured_by fault f
